@@ -1,0 +1,4 @@
+mod Wholes
+mod Pieces
+mod Entries
+pub mod Appending
