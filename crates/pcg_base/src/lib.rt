@@ -1,12 +1,14 @@
 //! Sources, sinks and places.
 #![tactic(auto)]
 
+mod clock;
 mod memory;
 mod place;
 mod reading;
 mod traits;
 mod writing;
 
+pub use clock::{NoMemory, Ticks};
 pub use memory::MemSource;
 pub use place::{Kept, MemShelf, Shelf};
 pub use reading::{read_all, read_name};

@@ -1,0 +1,113 @@
+//! The values of single words.
+
+ghost use Rattle.std.specs.Prelude.{◌≡◌, ◌≤◌, ◌<◌, ◌^◌, ◌-◌, ◌==◌, length, option_map, position, IfSome};
+ghost use Rattle.std.specs.Str.{is_utf8};
+ghost use Rattle.pcg_words.specs.Words.{cut, number_within, grid_of, ticks_of, word};
+ghost use Rattle.pcg_words.specs.Job.{IsAxis, is_name};
+
+use chunk_geometry::Grid;
+use node_ids::read_digits;
+use pcg_base::Ticks;
+
+/// The bytes of a word.
+pub fn word(words: &[Vec<u8>], k: usize) -> &[u8]
+    requires { k < length words.now }
+    ensures { result.now ≡ word words.now k }
+{
+    words[k].as_slice()
+}
+
+/// Where the first comma of a text stands.
+fn comma_at(text: &[u8]) -> Option<usize>
+    ensures { result ≡ position (λ b. b == 44) text.now }
+{
+    text.iter().position(|b| *b == b',')
+}
+
+/// What stands before the first comma of a text and behind it.
+fn cut(text: &[u8]) -> Option<(&[u8], &[u8])>
+    ensures { option_map (λ p. (p.0.now, p.1.now)) result ≡ cut text.now }
+{
+    let Some(at) = comma_at(text) else {
+        return None;
+    };
+    let (front, rest) = text.split_at(at);
+    let (_, back) = rest.split_at(1);
+    Some((front, back))
+}
+
+/// A number from low to high.
+#[tactic(auto, unfolding(crate::specs::Words::number_within))]
+pub fn number_within(low: u64, high: u64, text: &[u8]) -> Option<u64>
+    ensures is { result ≡ number_within low high text.now }
+    ensures within { IfSome result (λ n. (low ≤ n) × (n ≤ high)) }
+{
+    let Some(n) = read_digits(text) else {
+        return None;
+    };
+    if low <= n && n <= high {
+        return Some(n);
+    }
+    None
+}
+
+/// The grid that three numbers spell, each from 1 to 2 to the number of bits.
+#[tactic(auto, unfolding(crate::specs::Words::grid_of))]
+pub fn grid_of(bits: u64, text: &[u8]) -> Option<Grid>
+    requires { bits ≤ 16 }
+    ensures is { result ≡ grid_of bits text.now }
+    ensures axes { IfSome result (λ g. (IsAxis bits g.x) × (IsAxis bits g.y) × (IsAxis bits g.z)) }
+{
+    let Some((first, rest)) = cut(text) else {
+        return None;
+    };
+    let Some((second, third)) = cut(rest) else {
+        return None;
+    };
+    let most = 1 << bits;
+    let Some(x) = number_within(1, most, first) else {
+        return None;
+    };
+    let Some(y) = number_within(1, most, second) else {
+        return None;
+    };
+    let Some(z) = number_within(1, most, third) else {
+        return None;
+    };
+    Grid::new(x as u32, y as u32, z as u32).ok()
+}
+
+/// The clock that two numbers spell.
+#[tactic(auto, unfolding(crate::specs::Words::ticks_of))]
+pub fn ticks_of(text: &[u8]) -> Option<Ticks>
+    ensures is { result ≡ ticks_of text.now }
+    ensures small { IfSome result (λ t. (t.start < 2 ^ 62) × (t.step < 2 ^ 62)) }
+{
+    let Some((first, second)) = cut(text) else {
+        return None;
+    };
+    let most = (1 << 62) - 1;
+    let Some(start) = number_within(0, most, first) else {
+        return None;
+    };
+    let Some(step) = number_within(0, most, second) else {
+        return None;
+    };
+    Some(Ticks { start, step })
+}
+
+/// Whether bytes are UTF-8.
+#[tactic(auto, using(crate::proofs::Texts::is_text, crate::proofs::Texts::is_no_text))]
+fn is_utf8(text: &[u8]) -> bool
+    ensures { result ≡ is_utf8 text.now }
+{
+    str::from_utf8(text).is_ok()
+}
+
+/// Whether a text may name a file.
+#[tactic(auto, unfolding(crate::specs::Job::is_name))]
+pub fn is_name(text: &[u8]) -> bool
+    ensures { result ≡ is_name text.now }
+{
+    !text.is_empty() && text[0] != b'-' && is_utf8(text)
+}
