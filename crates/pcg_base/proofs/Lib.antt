@@ -2,3 +2,4 @@ mod Wholes
 mod Pieces
 mod Entries
 pub mod Appending
+pub mod Cuts

@@ -2,6 +2,7 @@
 #![tactic(auto)]
 
 mod clock;
+mod cutting;
 mod memory;
 mod place;
 mod reading;
@@ -9,6 +10,7 @@ mod traits;
 mod writing;
 
 pub use clock::{NoMemory, Ticks};
+pub use cutting::cut_at;
 pub use memory::MemSource;
 pub use place::{Kept, MemShelf, Shelf};
 pub use reading::{read_all, read_name};
