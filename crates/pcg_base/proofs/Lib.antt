@@ -1,5 +1,4 @@
 mod Wholes
 mod Pieces
-mod Entries
 pub mod Appending
 pub mod Cuts

@@ -1,18 +1,29 @@
-//! Sources, sinks and places.
+//! What the server meets of the outside: streams of bytes that come in and go out, a place that
+//! keeps bytes at names, a clock, and gates that a test can hold a client at. Each failure is
+//! counted by the object that failed, and no answer `Failed` comes without its count.
+//!
+//! - `cutting`: texts that are cut at a byte
+//! - `traits`: sources and sinks
+//! - `place`: places
+//! - `clock`, `gate`: times, and the points that a client passes
+//! - `reading`, `writing`: whole streams and whole pieces
+//! - `memory`: sources in memory, which fail where they are told to
 #![tactic(auto)]
 
 mod clock;
 mod cutting;
+mod gate;
 mod memory;
 mod place;
 mod reading;
 mod traits;
 mod writing;
 
-pub use clock::{NoMemory, Ticks};
+pub use clock::{Clock, StepClock, Ticks};
 pub use cutting::cut_at;
+pub use gate::{Gate, OpenGate, Point};
 pub use memory::MemSource;
-pub use place::{Kept, MemShelf, Shelf};
-pub use reading::{read_all, read_name};
-pub use traits::{Failed, Place, PlaceError, ReadError, Sink, Source};
+pub use place::{Place, PlaceError};
+pub use reading::{ReadError, read_all, read_name};
+pub use traits::{Failed, NoMemory, Sink, Source};
 pub use writing::write_all;

@@ -1,171 +1,118 @@
-ghost use Rattle.std.specs.Prelude.{◌≡◌, ◌≢◌, ◌≤◌, ◌<◌, ◌+◌, ℕ, List, Bool, true, Some, None, Option, IfOk, OnOk, OnErr, IfSome, IfNone, IsErrOf, length};
-ghost use Rattle.pcg_base.specs.Causes.{Rose};
-ghost use Rattle.pcg_base.specs.Kept.{FirstAt, entry_of, bytes_in, faults_in, opened_in, times, added};
+ghost use Rattle.std.specs.Prelude.{◌≡◌, ◌≢◌, ◌≤◌, ℕ, List, [], Bool, true, IfOk, OnOk, OnErr, IsErrOf, Option};
+ghost use Rattle.pcg_base.specs.Causes.{Rose, added};
+ghost use Rattle.pcg_base.specs.Told.{Files, KeepsFiles, PutsFile, PutsHeld, TellsAt, TellsTo, Counts, OpensSource, OpensSink};
 
-use crate::memory::MemSource;
-use crate::traits::{PlaceError, Source};
-use std::alloc::{AllocError, Global};
+use crate::traits::{Sink, Source};
 
-/// A place that is only read, cut from the whole one.
-pub trait Shelf {
+/// Why an opening gave nothing.
+#[derive(Clone, Copy, Debug, PartialEq, Eq)]
+pub enum PlaceError {
+    /// The name could not be opened. The place's count of faults of that kind rose.
+    Failed,
+    /// Memory was refused.
+    NoMemory,
+}
+
+/// A folder, or what stands for one: names, and bytes at them.
+///
+/// Beside each name stand four counts that never fall: failed openings for reading and for writing,
+/// and the faults of the sources and of the sinks that were kept there. All counts stop at
+/// `2^64 - 1`. A source or a sink is kept at a name that an earlier opening of its kind answered.
+pub trait Place {
+    /// What a name is read by.
     type In: Source + Send;
 
-    ghost tells: { Self → Bool };
+    /// What a name is written by.
+    type Out: Sink + Send;
 
-    ghost bytes_at: { Self → List ℕ → Option (List ℕ) };
+    /// The bytes at each name, where the place tells them.
+    ghost files: { Self → Option Files };
 
+    /// Failed openings for reading, and the faults of all sources kept.
     ghost read_faults: { Self → ℕ };
 
-    ghost missed: { Self → List ℕ → ℕ };
+    /// Failed openings for writing, and the faults of all sinks kept.
+    ghost write_faults: { Self → ℕ };
 
-    ghost source_faults: { Self → List ℕ → ℕ };
+    /// The counts beside a name.
+    ghost counts: { Self → List ℕ → Counts };
 
-    ghost opened: { Self → List ℕ → Bool };
+    /// Whether a name was opened for reading.
+    ghost opened_in: { Self → List ℕ → Bool };
 
+    /// Whether a name was opened for writing.
+    ghost opened_out: { Self → List ℕ → Bool };
+
+    /// What the last source that was kept at a name had left, in a place that tells its bytes.
+    ghost left_at: { Self → List ℕ → List ℕ };
+
+    /// Opens a name for reading. `Failed` comes only where both the place's count of faults of
+    /// reading and the name's count of failed openings for reading rose.
     fn source_of(&mut self, name: &str) -> Result<Self::In, PlaceError>
-        ensures told { tells self.new ≡ tells self.old }
-        ensures bytes { (n : List ℕ) → bytes_at self.new n ≡ bytes_at self.old n }
+        ensures later { read_faults self.old ≤ read_faults self.new }
+        ensures other_kind { write_faults self.new ≡ write_faults self.old }
         ensures failed { IsErrOf result PlaceError.Failed → Rose (read_faults self.old) (read_faults self.new) }
-        ensures failed_here { IsErrOf result PlaceError.Failed → missed self.old name.now < missed self.new name.now }
-        ensures missed_here { (n : List ℕ) → n ≢ name.now → missed self.new n ≡ missed self.old n }
-        ensures faults { (n : List ℕ) → source_faults self.new n ≡ source_faults self.old n }
+        ensures failed_here { IsErrOf result PlaceError.Failed
+            → Rose (counts self.old name.now).source_openings (counts self.new name.now).source_openings }
+        ensures only_kind { OpensSource (counts self.old name.now) (counts self.new name.now) }
+        ensures only_here { (n : List ℕ) → n ≢ name.now → counts self.new n ≡ counts self.old n }
+        ensures files { KeepsFiles (files self.old) (files self.new) }
+        ensures left { (n : List ℕ) → left_at self.new n ≡ left_at self.old n }
         ensures fresh { IfOk result (λ s. Self.In.faults s ≡ 0) }
-        ensures left { tells self.old ≡ true → IfOk result (λ s. (bytes_at self.old name.now ≡ Self.In.left s) × (Self.In.left s ≢ None)) }
-        ensures opened { OnOk result (opened self.new name.now ≡ true) }
-        ensures stays { (n : List ℕ) → opened self.old n ≡ true → opened self.new n ≡ true };
+        ensures bytes { IfOk result (λ s. TellsAt (files self.old) name.now (Self.In.left s)) }
+        ensures opened { OnOk result (opened_in self.new name.now ≡ true) }
+        ensures stays_in { (n : List ℕ) → opened_in self.old n ≡ true → opened_in self.new n ≡ true }
+        ensures stays_out { (n : List ℕ) → opened_out self.old n ≡ true → opened_out self.new n ≡ true };
 
+    /// Opens a name for writing, which has no bytes from then on. `Failed` comes only where both the
+    /// place's count of faults of writing and the name's count of failed openings for writing rose.
+    fn sink_of(&mut self, name: &str) -> Result<Self::Out, PlaceError>
+        ensures later { write_faults self.old ≤ write_faults self.new }
+        ensures other_kind { read_faults self.new ≡ read_faults self.old }
+        ensures failed { IsErrOf result PlaceError.Failed → Rose (write_faults self.old) (write_faults self.new) }
+        ensures failed_here { IsErrOf result PlaceError.Failed
+            → Rose (counts self.old name.now).sink_openings (counts self.new name.now).sink_openings }
+        ensures only_kind { OpensSink (counts self.old name.now) (counts self.new name.now) }
+        ensures only_here { (n : List ℕ) → n ≢ name.now → counts self.new n ≡ counts self.old n }
+        ensures made { OnOk result (PutsFile (files self.old) (files self.new) name.now []) }
+        ensures unmade { OnErr result (KeepsFiles (files self.old) (files self.new)) }
+        ensures left { (n : List ℕ) → left_at self.new n ≡ left_at self.old n }
+        ensures fresh { IfOk result (λ k. Self.Out.faults k ≡ 0) }
+        ensures empty { IfOk result (λ k. TellsTo (files self.old) (Self.Out.held k) []) }
+        ensures opened { OnOk result (opened_out self.new name.now ≡ true) }
+        ensures stays_in { (n : List ℕ) → opened_in self.old n ≡ true → opened_in self.new n ≡ true }
+        ensures stays_out { (n : List ℕ) → opened_out self.old n ≡ true → opened_out self.new n ≡ true };
+
+    /// Keeps a source back at its name: adds its faults to the counts, and notes what it has left.
     fn keep_in(&mut self, name: &str, source: Self::In)
-        requires { opened self.old name.now ≡ true }
-        ensures told { tells self.new ≡ tells self.old }
-        ensures bytes { (n : List ℕ) → bytes_at self.new n ≡ bytes_at self.old n }
+        requires { opened_in self.old name.now ≡ true }
+        ensures later { read_faults self.old ≤ read_faults self.new }
         ensures total { read_faults self.new ≡ added (read_faults self.old) (Self.In.faults source) }
-        ensures here { source_faults self.new name.now ≡ added (source_faults self.old name.now) (Self.In.faults source) }
-        ensures elsewhere { (n : List ℕ) → n ≢ name.now → source_faults self.new n ≡ source_faults self.old n }
-        ensures missed { (n : List ℕ) → missed self.new n ≡ missed self.old n }
-        ensures stays { (n : List ℕ) → opened self.old n ≡ true → opened self.new n ≡ true };
-}
+        ensures other_kind { write_faults self.new ≡ write_faults self.old }
+        ensures here { counts self.new name.now ≡ record (counts self.old name.now) {
+          source_faults = added (counts self.old name.now).source_faults (Self.In.faults source);
+        } }
+        ensures later_here { (counts self.old name.now).source_faults ≤ (counts self.new name.now).source_faults }
+        ensures only_here { (n : List ℕ) → n ≢ name.now → counts self.new n ≡ counts self.old n }
+        ensures files { KeepsFiles (files self.old) (files self.new) }
+        ensures left { TellsTo (files self.old) (Self.In.left source) (left_at self.new name.now) }
+        ensures only_left { (n : List ℕ) → n ≢ name.now → left_at self.new n ≡ left_at self.old n }
+        ensures stays_in { (n : List ℕ) → opened_in self.old n ≡ true → opened_in self.new n ≡ true }
+        ensures stays_out { (n : List ℕ) → opened_out self.old n ≡ true → opened_out self.new n ≡ true };
 
-/// What is kept beside a name.
-#[derive(Debug, Drop)]
-pub struct Kept {
-    pub name: String,
-    pub bytes: Vec<u8>,
-    pub opened: bool,
-    pub faults: u64,
-}
-
-/// Files in memory.
-#[derive(Debug, Drop)]
-pub struct MemShelf {
-    kept: Vec<Kept>,
-    missed: Vec<String>,
-    piece: usize,
-    read_faults: u64,
-    ghost some: { 0 < piece },
-}
-
-/// Where a name's first entry stands.
-fn place_of(kept: &[Kept], name: &str) -> Option<usize>
-    ensures within { IfSome result (λ i. i < length kept.now) }
-    ensures found { IfSome result (λ i. FirstAt name.now kept.now i) }
-    ensures none { IfNone result (entry_of name.now kept.now ≡ None) }
-{
-    for i in 0..kept.len() {
-        if kept[i].name.as_str() == name {
-            return Some(i);
-        }
-    }
-    None
-}
-
-/// A copy of a name's bytes.
-fn bytes_of(alloc: Global, kept: &[Kept], i: usize, name: &str) -> Result<Vec<u8>, AllocError>
-    requires within { i < length kept.now }
-    requires first { FirstAt name.now kept.now i }
-    ensures { IfOk result (λ v. bytes_in (entry_of name.now kept.now) ≡ Some v.items) }
-{
-    let _ = name;
-    Vec::from_slice(alloc, kept[i].bytes.as_slice())
-}
-
-/// Notes that a name was opened.
-fn mark_opened(kept: &mut Vec<Kept>, i: usize, name: &str)
-    requires within { i < length kept.old.items }
-    requires first { FirstAt name.now kept.old.items i }
-    ensures bytes { (n : List ℕ) → bytes_in (entry_of n kept.new.items) ≡ bytes_in (entry_of n kept.old.items) }
-    ensures faults { (n : List ℕ) → faults_in (entry_of n kept.new.items) ≡ faults_in (entry_of n kept.old.items) }
-    ensures opened { opened_in (entry_of name.now kept.new.items) ≡ true }
-    ensures stays { (n : List ℕ) → opened_in (entry_of n kept.old.items) ≡ true → opened_in (entry_of n kept.new.items) ≡ true }
-{
-    let _ = name;
-    kept[i].opened = true;
-}
-
-/// Adds the faults of a source that is kept.
-fn add_faults(kept: &mut Vec<Kept>, i: usize, name: &str, faults: u64)
-    requires within { i < length kept.old.items }
-    requires first { FirstAt name.now kept.old.items i }
-    ensures bytes { (n : List ℕ) → bytes_in (entry_of n kept.new.items) ≡ bytes_in (entry_of n kept.old.items) }
-    ensures here { faults_in (entry_of name.now kept.new.items) ≡ added (faults_in (entry_of name.now kept.old.items)) faults }
-    ensures elsewhere { (n : List ℕ) → n ≢ name.now → faults_in (entry_of n kept.new.items) ≡ faults_in (entry_of n kept.old.items) }
-    ensures stays { (n : List ℕ) → opened_in (entry_of n kept.new.items) ≡ opened_in (entry_of n kept.old.items) }
-{
-    let _ = name;
-    let entry = &mut kept[i];
-    entry.faults = entry.faults.saturating_add(faults);
-}
-
-impl MemShelf {
-    /// Notes that no file has the name.
-    fn miss(&mut self, name: &str) -> PlaceError
-        ensures kept { self.new.kept ≡ self.old.kept }
-        ensures failed { result ≡ PlaceError.Failed → Rose self.old.read_faults self.new.read_faults }
-        ensures here { result ≡ PlaceError.Failed → times name.now self.old.missed.items < times name.now self.new.missed.items }
-        ensures elsewhere { (n : List ℕ) → n ≢ name.now → times n self.new.missed.items ≡ times n self.old.missed.items }
-        ensures later { self.old.read_faults ≤ self.new.read_faults }
-    {
-        let alloc = *self.kept.allocator();
-        let Ok(text) = String::from_str(alloc, name) else {
-            return PlaceError::NoMemory;
-        };
-        if self.missed.push(text).is_err() {
-            return PlaceError::NoMemory;
-        }
-        self.read_faults = self.read_faults.saturating_add(1);
-        PlaceError::Failed
-    }
-}
-
-impl Shelf for MemShelf {
-    type In = MemSource;
-
-    ghost tells = { λ p. true };
-
-    ghost bytes_at = { λ p n. bytes_in (entry_of n p.kept.items) };
-
-    ghost read_faults = { λ p. p.read_faults };
-
-    ghost missed = { λ p n. times n p.missed.items };
-
-    ghost source_faults = { λ p n. faults_in (entry_of n p.kept.items) };
-
-    ghost opened = { λ p n. opened_in (entry_of n p.kept.items) };
-
-    fn source_of(&mut self, name: &str) -> Result<MemSource, PlaceError> {
-        let Some(i) = place_of(&self.kept, name) else {
-            return Err(self.miss(name));
-        };
-        let alloc = *self.kept.allocator();
-        let Ok(bytes) = bytes_of(alloc, &self.kept, i, name) else {
-            return Err(PlaceError::NoMemory);
-        };
-        mark_opened(&mut self.kept, i, name);
-        Ok(MemSource::new(bytes, self.piece, Vec::new(alloc)))
-    }
-
-    fn keep_in(&mut self, name: &str, source: MemSource) {
-        let i = place_of(&self.kept, name).unwrap();
-        add_faults(&mut self.kept, i, name, source.faults());
-        self.read_faults = self.read_faults.saturating_add(source.faults());
-    }
+    /// Keeps a sink back at its name: adds its faults to the counts, and puts its bytes there.
+    fn keep_out(&mut self, name: &str, sink: Self::Out)
+        requires { opened_out self.old name.now ≡ true }
+        ensures later { write_faults self.old ≤ write_faults self.new }
+        ensures total { write_faults self.new ≡ added (write_faults self.old) (Self.Out.faults sink) }
+        ensures other_kind { read_faults self.new ≡ read_faults self.old }
+        ensures here { counts self.new name.now ≡ record (counts self.old name.now) {
+          sink_faults = added (counts self.old name.now).sink_faults (Self.Out.faults sink);
+        } }
+        ensures later_here { (counts self.old name.now).sink_faults ≤ (counts self.new name.now).sink_faults }
+        ensures only_here { (n : List ℕ) → n ≢ name.now → counts self.new n ≡ counts self.old n }
+        ensures bytes { PutsHeld (files self.old) (files self.new) name.now (Self.Out.held sink) }
+        ensures left { (n : List ℕ) → left_at self.new n ≡ left_at self.old n }
+        ensures stays_in { (n : List ℕ) → opened_in self.old n ≡ true → opened_in self.new n ≡ true }
+        ensures stays_out { (n : List ℕ) → opened_out self.old n ≡ true → opened_out self.new n ≡ true };
 }

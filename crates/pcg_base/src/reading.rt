@@ -1,22 +1,37 @@
-ghost use Rattle.std.specs.Prelude.{◌≡◌, ◌≤◌, ◌<◌, ℕ, List, [], ◌++◌, length, IfOk, OnOk, IsErrOf, IfSome, Some, true};
+ghost use Rattle.std.specs.Prelude.{◌≡◌, ◌≢◌, ◌≤◌, ◌<◌, ◌⊎◌, ℕ, List, [], length, IfOk, OnOk, IsErrOf, true};
 ghost use Rattle.std.specs.Io.KnownBytes.{Consumes, IsAtEnd};
-ghost use Rattle.pcg_base.specs.Causes.{HasCause, Rose};
-ghost use Rattle.pcg_base.specs.Told.{KeepsFiles, TellsAt};
+ghost use Rattle.pcg_base.specs.Causes.{Rose};
+ghost use Rattle.pcg_base.specs.Told.{KeepsFiles, TellsAt, LosesFront, IsLonger, IsLongerAt, LeavesNone, ReadsSource};
 
-use crate::traits::{Place, PlaceError, ReadError, Source};
+use crate::place::{Place, PlaceError};
+use crate::traits::Source;
 use std::alloc::Global;
 
-/// All bytes up to the end.
+/// Why a stream was not read whole.
+#[derive(Clone, Copy, Debug, PartialEq, Eq)]
+pub enum ReadError {
+    /// A read or an opening failed. A count of faults rose.
+    Failed,
+    /// There are more bytes than the limit.
+    TooLong,
+    /// Memory was refused.
+    NoMemory,
+}
+
+/// Reads all bytes up to the end, at most `limit` of them. Whatever it answers, a front of what
+/// was left is gone.
 pub fn read_all<S: Source>(alloc: Global, from: &mut S, limit: u64) -> Result<Vec<u8>, ReadError>
     ensures bytes { IfOk result (λ v. Consumes (S.left from.old) (S.left from.new) v.items) }
     ensures end { OnOk result (IsAtEnd (S.left from.new)) }
     ensures size { IfOk result (λ v. length v.items ≤ limit) }
     ensures failed { IsErrOf result ReadError.Failed → Rose (S.faults from.old) (S.faults from.new) }
+    ensures long { IsErrOf result ReadError.TooLong → IsLonger (S.left from.old) limit }
     ensures later { S.faults from.old ≤ S.faults from.new }
+    ensures front { LosesFront (S.left from.old) (S.left from.new) }
 {
     let mut all = Vec::new(alloc);
     let mut piece = [0u8; 4096];
-    for _ in 0..u64::MAX {
+    for turn in 0..u64::MAX {
         let count = match from.read(&mut piece) {
             Ok(count) => count,
             Err(_) => return Err(ReadError::Failed),
@@ -32,20 +47,32 @@ pub fn read_all<S: Source>(alloc: Global, from: &mut S, limit: u64) -> Result<Ve
             Err(_) => return Err(ReadError::NoMemory),
         }
     }
-    Err(ReadError::TooLong)
+    unreachable!()
 }
 
-/// Opens a name, reads it whole and keeps it back.
-#[tactic(auto, using(crate::proofs::Wholes::tells_whole))]
+/// Opens a name, reads it whole, at most `limit` bytes of it, and keeps it back.
 pub fn read_name<P: Place>(
     alloc: Global,
     place: &mut P,
     name: &str,
     limit: u64,
 ) -> Result<Vec<u8>, ReadError>
-    ensures failed { IsErrOf result ReadError.Failed → Rose (P.read_faults place.old) (P.read_faults place.new) }
     ensures bytes { IfOk result (λ v. TellsAt (P.files place.old) name.now (Some v.items)) }
+    ensures size { IfOk result (λ v. length v.items ≤ limit) }
+    ensures end { OnOk result (LeavesNone (P.files place.old) (P.left_at place.new name.now)) }
+    ensures long { IsErrOf result ReadError.TooLong → IsLongerAt (P.files place.old) name.now limit }
+    ensures failed { IsErrOf result ReadError.Failed → Rose (P.read_faults place.old) (P.read_faults place.new) }
+    ensures failed_here { IsErrOf result ReadError.Failed
+        → (Rose (P.counts place.old name.now).source_openings (P.counts place.new name.now).source_openings
+        ⊎ Rose (P.counts place.old name.now).source_faults (P.counts place.new name.now).source_faults) }
+    ensures later { P.read_faults place.old ≤ P.read_faults place.new }
+    ensures other_kind { P.write_faults place.new ≡ P.write_faults place.old }
+    ensures only_kind { ReadsSource (P.counts place.old name.now) (P.counts place.new name.now) }
+    ensures only_here { (n : List ℕ) → n ≢ name.now → P.counts place.new n ≡ P.counts place.old n }
     ensures files { KeepsFiles (P.files place.old) (P.files place.new) }
+    ensures only_left { (n : List ℕ) → n ≢ name.now → P.left_at place.new n ≡ P.left_at place.old n }
+    ensures stays_in { (n : List ℕ) → P.opened_in place.old n ≡ true → P.opened_in place.new n ≡ true }
+    ensures stays_out { (n : List ℕ) → P.opened_out place.old n ≡ true → P.opened_out place.new n ≡ true }
 {
     let mut source = match place.source_of(name) {
         Ok(source) => source,

@@ -1,8 +1,9 @@
-use Rattle.std.proofs.Common.{◌≡◌, ◌≤◌, ◌<◌, ℕ, List, [], ◌++◌, length, IfOk, OnOk, IsErrOf, IfSome, Some, true, ◌+◌, ◌-◌, ◌*◌}
-use Rattle.std.specs.Io.KnownBytes.{Consumes, IsAtEnd}
+use Rattle.std.proofs.Common.{◌≤◌, length}
+use Rattle.std.specs.Io.KnownBytes.{Consumes}
 use Rattle.pcg_base.proofs.reading.read_all.Given as goal
 
-abbrev pub invariant-loop : goal.invariant-loop
-invariant-loop g l = Consumes (g.S.Source.left l.fn.from) (g.S.Source.left l.from) l.all.items
+abbrev pub invariant-loop-turn : goal.invariant-loop-turn
+invariant-loop-turn g l = Consumes (g.S.Source.left l.fn.from) (g.S.Source.left l.from) l.all.items
     × (length l.all.items ≤ l.limit)
+    × (l.turn ≤ length l.all.items)
     × (g.S.Source.faults l.fn.from ≤ g.S.Source.faults l.from)
