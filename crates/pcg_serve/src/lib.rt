@@ -1,0 +1,4 @@
+//! The program's calls.
+#![tactic(auto)]
+
+mod lines;
