@@ -1,9 +1,10 @@
 -- Which words are a job, and which job they spell.
-use Rattle.std.specs.Prelude.{◌≡◌, ◌+◌, ◌-◌, ◌^◌, ℕ, Bool, ◌&&◌, ◌==◌, nat_le, nat_lt, if◌then◌else◌, List, [], ◌∷◌, length, take, drop, codes, bytes_eq, position, ⊤, Option, Some, None, Result, Ok, Err, option_map, option_and_then, Vec, slice_get}
+use Rattle.std.specs.Prelude.{◌≡◌, ◌+◌, ◌-◌, ◌^◌, ℕ, Bool, ◌&&◌, ◌==◌, nat_le, nat_lt, if◌then◌else◌, List, [], ◌∷◌, length, codes, bytes_eq, ⊤, Option, Some, None, Result, Ok, Err, option_map, option_and_then, Vec, slice_get}
 use Rattle.std.specs.Option.{option_map_or}
 use Rattle.std.specs.declared.alloc.Global.{Global}
 use Rattle.chunk_geometry.specs.Cells.{Cells}
 use Rattle.node_ids.specs.Digits.{number_of}
+use Rattle.pcg_base.specs.Cutting.{cut_at}
 use Rattle.pcg_base.specs.declared.clock.Ticks.{Ticks}
 use Rattle.pcg_words.specs.declared.job.RehearseJob.{RehearseJob}
 use Rattle.pcg_words.specs.declared.job.Job.{Job}
@@ -24,10 +25,6 @@ only_if test x = if test x then Some x else None
 abbrev pub word : List (Vec ℕ Global) → ℕ → List ℕ
 word words k = option_map_or (λ w. w.items) (slice_get words k) []
 
--- what stands before the first comma and behind it
-abbrev pub cut : List ℕ → Option (List ℕ × List ℕ)
-cut text = option_map (λ i. (take i text, drop (i + 1) text)) (position (λ b. b == 44) text)
-
 -- a number from low to high
 unfoldable pub number_within : ℕ → ℕ → List ℕ → Option ℕ
 number_within low high text = number_of text >>= only_if (λ n. nat_le low n && nat_le n high)
@@ -35,8 +32,8 @@ number_within low high text = number_of text >>= only_if (λ n. nat_le low n && 
 -- three numbers of chunks, each from 1 to as many as the coordinate's bits allow
 unfoldable pub grid_of : ℕ → List ℕ → Option Cells
 grid_of bits text = do
-  first ← cut text
-  second ← cut first.1
+  first ← cut_at 44 text
+  second ← cut_at 44 first.1
   x ← number_within 1 (2 ^ bits) first.0
   y ← number_within 1 (2 ^ bits) second.0
   z ← number_within 1 (2 ^ bits) second.1
@@ -45,7 +42,7 @@ grid_of bits text = do
 -- two numbers of milliseconds below 2 ^ 62
 unfoldable pub ticks_of : List ℕ → Option Ticks
 ticks_of text = do
-  parts ← cut text
+  parts ← cut_at 44 text
   start ← number_within 0 (2 ^ 62 - 1) parts.0
   step ← number_within 0 (2 ^ 62 - 1) parts.1
   Some (record { start = start; step = step })

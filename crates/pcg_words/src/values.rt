@@ -1,13 +1,13 @@
 //! The values of single words.
 
-ghost use Rattle.std.specs.Prelude.{◌≡◌, ◌≤◌, ◌<◌, ◌^◌, ◌-◌, ◌==◌, length, option_map, position, IfSome};
+ghost use Rattle.std.specs.Prelude.{◌≡◌, ◌≤◌, ◌<◌, ◌^◌, ◌-◌, ◌==◌, length, IfSome, Some};
 ghost use Rattle.std.specs.Str.{is_utf8};
-ghost use Rattle.pcg_words.specs.Words.{cut, number_within, grid_of, ticks_of, word};
+ghost use Rattle.pcg_words.specs.Words.{number_within, grid_of, ticks_of, word};
 ghost use Rattle.pcg_words.specs.Job.{IsAxis, is_name};
 
 use chunk_geometry::Grid;
 use node_ids::read_digits;
-use pcg_base::Ticks;
+use pcg_base::{Ticks, cut_at};
 
 /// The bytes of a word.
 pub fn word(words: &[Vec<u8>], k: usize) -> &[u8]
@@ -15,25 +15,6 @@ pub fn word(words: &[Vec<u8>], k: usize) -> &[u8]
     ensures { result.now ≡ word words.now k }
 {
     words[k].as_slice()
-}
-
-/// Where the first comma of a text stands.
-fn comma_at(text: &[u8]) -> Option<usize>
-    ensures { result ≡ position (λ b. b == 44) text.now }
-{
-    text.iter().position(|b| *b == b',')
-}
-
-/// What stands before the first comma of a text and behind it.
-fn cut(text: &[u8]) -> Option<(&[u8], &[u8])>
-    ensures { option_map (λ p. (p.0.now, p.1.now)) result ≡ cut text.now }
-{
-    let Some(at) = comma_at(text) else {
-        return None;
-    };
-    let (front, rest) = text.split_at(at);
-    let (_, back) = rest.split_at(1);
-    Some((front, back))
 }
 
 /// A number from low to high.
@@ -51,6 +32,17 @@ pub fn number_within(low: u64, high: u64, text: &[u8]) -> Option<u64>
     None
 }
 
+/// The grid of three numbers that fit.
+#[tactic(auto, unfolding(chunk_geometry::specs::Grids::grid_of))]
+fn grid_within(x: u32, y: u32, z: u32) -> Option<Grid>
+    requires x { (1 ≤ x) × (x ≤ 65536) }
+    requires y { (1 ≤ y) × (y ≤ 65536) }
+    requires z { (1 ≤ z) × (z ≤ 65536) }
+    ensures { result ≡ Some (record { x = x; y = y; z = z }) }
+{
+    Grid::new(x, y, z).ok()
+}
+
 /// The grid that three numbers spell, each from 1 to 2 to the number of bits.
 #[tactic(auto, unfolding(crate::specs::Words::grid_of))]
 pub fn grid_of(bits: u64, text: &[u8]) -> Option<Grid>
@@ -58,10 +50,10 @@ pub fn grid_of(bits: u64, text: &[u8]) -> Option<Grid>
     ensures is { result ≡ grid_of bits text.now }
     ensures axes { IfSome result (λ g. (IsAxis bits g.x) × (IsAxis bits g.y) × (IsAxis bits g.z)) }
 {
-    let Some((first, rest)) = cut(text) else {
+    let Some((first, rest)) = cut_at(b',', text) else {
         return None;
     };
-    let Some((second, third)) = cut(rest) else {
+    let Some((second, third)) = cut_at(b',', rest) else {
         return None;
     };
     let most = 1 << bits;
@@ -74,7 +66,7 @@ pub fn grid_of(bits: u64, text: &[u8]) -> Option<Grid>
     let Some(z) = number_within(1, most, third) else {
         return None;
     };
-    Grid::new(x as u32, y as u32, z as u32).ok()
+    grid_within(x as u32, y as u32, z as u32)
 }
 
 /// The clock that two numbers spell.
@@ -83,7 +75,7 @@ pub fn ticks_of(text: &[u8]) -> Option<Ticks>
     ensures is { result ≡ ticks_of text.now }
     ensures small { IfSome result (λ t. (t.start < 2 ^ 62) × (t.step < 2 ^ 62)) }
 {
-    let Some((first, second)) = cut(text) else {
+    let Some((first, second)) = cut_at(b',', text) else {
         return None;
     };
     let most = (1 << 62) - 1;
