@@ -1,5 +1,5 @@
 -- The first layer at which a test is true, the top layer and the level.
-use Rattle.std.proofs.Common.{◌≡◌, ℕ, zero, suc, Bool, true, false, ◌<◌, ◌≤◌, ◌^◌, ◌+◌, ◌-◌, ◌*◌, ◌/◌, ◌&&◌, max, leb, eqb, cond, refl, sym, ap, subst, ◌∙◌, inl, inr, arith}
+use Rattle.std.proofs.Common.{◌≡◌, ℕ, zero, suc, Bool, true, false, ◌<◌, ◌≤◌, ◌^◌, ◌+◌, ◌-◌, ◌*◌, ◌/◌, ◌&&◌, leb, eqb, sym, ap, subst, ◌∙◌, inl, inr, arith}
 use Rattle.std.proofs.lemmas.Bool.{cond_both, and_parts, and_from, leb-true, le-leb, ltb-true, eqb-true, eq-eqb, false≢true, cases_order, cases_lt}
 use Rattle.std.proofs.Math.Nat.{div-eq_of_lt}
 use Rattle.std.proofs.Math.Pow.{pow_mono}
@@ -36,7 +36,7 @@ module _ (test : ℕ → Bool) where
   first_true layer zero found low high is = subst (λ n. test n ≡ true) (omega arith) is
   first_true layer (suc more) found low high is =
       cond_both (test layer) layer (first_from test (layer + 1) more) (λ n. test n ≡ true) (λ e. e)
-        (λ e. first_true (layer + 1) more found (above layer found low e is) (omega arith) is)
+      (λ e. first_true (layer + 1) more found (above layer found low e is) (omega arith) is)
 
   -- what is least among the layers at which the test is true is the first
   first_is : (layer more found : ℕ) → layer ≤ found → found ≤ layer + more → test found ≡ true
@@ -70,9 +70,9 @@ log_fits w log h =
 
 pub log_least : (w log layer : ℕ) → 2 ≤ w → 2 ^ log ≤ w - 1 → w ≤ 2 ^ (layer - 2) → 3 + log ≤ layer
 log_least w log layer wide low fits = elim (cases_lt (layer - 2) (log + 1)) [
-    | inl less ↦ let m : 2 ^ (layer - 2) ≤ 2 ^ log = pow_mono (omega arith) in absurd (omega arith)
-    | inr more ↦ omega arith
-  ]
+  | inl less ↦ let m : 2 ^ (layer - 2) ≤ 2 ^ log = pow_mono (omega arith) in absurd (omega arith)
+  | inr more ↦ omega arith
+]
 
 pub cell_same : (a b : Cell) → same_cell a b ≡ true → a ≡ b
 cell_same a b e =

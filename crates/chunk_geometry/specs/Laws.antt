@@ -1,5 +1,5 @@
 -- Laws over chunks.
-use Rattle.std.specs.Prelude.{◌≡◌, ◌≤◌, ◌-◌, ◌^◌, true}
+use Rattle.std.specs.Prelude.{◌≡◌, ◌≤◌, true}
 use Rattle.chunk_geometry.specs.Cells.{Cells}
 use Rattle.chunk_geometry.specs.declared.Cell.{Cell}
 use Rattle.chunk_geometry.specs.Chunks.{chunk_at, top_layer, widest}

@@ -1,9 +1,9 @@
 -- Packing and unpacking undo each other.
-use Rattle.std.proofs.Common.{◌≡◌, ℕ, Bool, true, false, ◌<◌, ◌≤◌, ◌^◌, ◌-◌, ◌*◌, ◌%◌, ◌/◌, leb, cond, Result, Ok, Err, ap, subst, sym, ◌∙◌, arith, refl}
+use Rattle.std.proofs.Common.{◌≡◌, ℕ, Bool, true, false, ◌<◌, ◌≤◌, ◌^◌, ◌-◌, ◌*◌, ◌%◌, ◌/◌, leb, cond, Result, Ok, Err, ap, subst, arith, refl}
 use Rattle.std.proofs.lemmas.Bool.{leb-true, le-leb}
 use Rattle.std.proofs.lemmas.Nat.{pow_pos}
 use Rattle.node_ids.specs.declared.Parts.{Parts}
-use Rattle.node_ids.specs.Ids.{LayoutForm, IsLayout, width, segments_over, greatest, id_of, parts_over, parts_of, PartsFit}
+use Rattle.node_ids.specs.Ids.{LayoutForm, IsLayout, width, greatest, id_of, parts_over, parts_of, PartsFit}
 use Rattle.node_ids.specs.Packing.{packed}
 use Rattle.node_ids.proofs.IdLemmas.{id_tells, parts_make}
 
@@ -25,14 +25,16 @@ packed_parts f p id layer e =
     let x = passed (leb p.x (2 ^ w - 1)) _ _ id e in
     let y = passed (leb p.y (2 ^ w - 1)) _ _ id x.1 in
     let z = passed (leb p.z (2 ^ w - 1)) _ _ id y.1 in
-    let g = passed (leb p.segment (greatest f p.layer)) _ _ id z.1 in
-    (record {
-      layer = layer;
-      x = below p.x w (leb-true _ _ x.0);
-      y = below p.y w (leb-true _ _ y.0);
-      z = below p.z w (leb-true _ _ z.0);
-      segment = below p.segment (56 - 3 * w) (leb-true _ _ g.0);
-    }, same_ok g.1)
+    let g = passed (leb p.segment (greatest f p.layer)) _ _ id z.1 in (
+      record {
+        layer = layer;
+        x = below p.x w (leb-true _ _ x.0);
+        y = below p.y w (leb-true _ _ y.0);
+        z = below p.z w (leb-true _ _ z.0);
+        segment = below p.segment (56 - 3 * w) (leb-true _ _ g.0);
+      },
+      same_ok g.1,
+    )
   where
     same_ok : {E : Type 0} {a b : ℕ} → ◌≡◌ {A = Result ℕ E} (Ok a) (Ok b) → a ≡ b
     same_ok e = cc

@@ -2,7 +2,7 @@
 use Rattle.std.specs.Prelude.{◌≡◌, ℕ, ◌^◌, ◌+◌, ◌-◌, ◌*◌, Ok, Some, None, [], codes}
 use Rattle.node_ids.specs.declared.Parts.{Parts}
 use Rattle.node_ids.specs.declared.PartName.TheVariants.{Y, Segment}
-use Rattle.node_ids.specs.Ids.{LayoutForm, id_of, parts_of, width}
+use Rattle.node_ids.specs.Ids.{LayoutForm, parts_of, width}
 use Rattle.node_ids.specs.Packing.{packed, too_large}
 use Rattle.node_ids.specs.Digits.{number_of}
 

@@ -223,7 +223,10 @@ mod tests {
         for (layer, width) in [(1, 8), (2, 8), (3, 7), (9, 1), (10, 1)] {
             assert_eq!(rt; layout.width(layer), width, "at layer {layer}");
         }
-        let none = BadLayout { version: 3, bits: 8 };
+        let none = BadLayout {
+            version: 3,
+            bits: 8,
+        };
         assert_eq!(rt; Layout::of_version(3, 8), Err(none));
     }
 }

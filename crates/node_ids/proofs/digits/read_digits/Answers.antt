@@ -1,4 +1,4 @@
-use Rattle.std.proofs.Common.{◌≡◌, ◌≤◌, length, sym, arith}
+use Rattle.std.proofs.Common.{◌≤◌, length, sym, arith}
 use mathlib.Core.Logic.{⊎_elim}
 use Rattle.std.proofs.lemmas.Bool.{eqb-true, eqb-false}
 use Rattle.node_ids.proofs.DigitLemmas.{none_where, parsed, unparsed, spells_plain, spells_utf8}
@@ -8,7 +8,7 @@ use Rattle.node_ids.proofs.digits.read_digits.Goals.{then-is_empty-via-then-is_e
 pub returns-then-is_empty : goal.returns-then-is_empty
 returns-then-is_empty c = sym (none_where c.args.text.now (λ s _.
     elim c.then-is_empty.branch [
-      then-is_empty-via-then-is_empty w ↦ omega (arith, s.some, eqb-true _ _ (sym w.if-is_empty.ensures))
+      | then-is_empty-via-then-is_empty w ↦ omega (arith, s.some, eqb-true _ _ (sym w.if-is_empty.ensures))
       | then-is_empty-via-else-is_empty+then-text-gt20 w ↦ omega (arith, s.few)
     ]))
 
