@@ -1,4 +1,5 @@
-mod Wholes
 mod Pieces
+mod Entries
+mod Maps
 pub mod Appending
 pub mod Cuts

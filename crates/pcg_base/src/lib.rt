@@ -13,16 +13,24 @@
 mod clock;
 mod cutting;
 mod gate;
-mod memory;
+mod kept;
+mod mem_place;
+mod mem_sink;
+mod mem_source;
 mod place;
 mod reading;
+#[cfg(test)]
+mod tests;
 mod traits;
 mod writing;
 
 pub use clock::{Clock, StepClock, Ticks};
 pub use cutting::cut_at;
 pub use gate::{Gate, OpenGate, Point};
-pub use memory::MemSource;
+pub use kept::MemFile;
+pub use mem_place::MemPlace;
+pub use mem_sink::MemSink;
+pub use mem_source::MemSource;
 pub use place::{Place, PlaceError};
 pub use reading::{ReadError, read_all, read_name};
 pub use traits::{Failed, NoMemory, Sink, Source};
