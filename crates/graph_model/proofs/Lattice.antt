@@ -1,9 +1,9 @@
 -- The source sides of the separating sets of least weight are closed under intersection, so the least cut is one of these sets.
-use Rattle.std.proofs.Common.{◌≡◌, ℕ, ◌+◌, ◌<◌, ◌≤◌, Bool, true, false, cond, ◌&&◌, ◌||◌, List, [], ◌∷◌, length, Option, Some, None, IsSome, sym, refl, ap, ◌∙◌, subst, inl, inr, ◌⊎◌, ◌↔◌, arith, zero-le, le_refl, is_some}
+use Rattle.std.proofs.Common.{◌≡◌, ℕ, ◌+◌, ◌<◌, ◌≤◌, Bool, true, false, cond, ◌&&◌, ◌||◌, List, [], ◌∷◌, length, IsSome, sym, refl, ap, ◌∙◌, subst, inl, inr, ◌⊎◌, ◌↔◌, arith, zero-le, le_refl}
 use Rattle.std.specs.List.{list_all}
 use Rattle.std.proofs.Math.Path.{fun_ext}
 use Rattle.std.proofs.Math.Bool.{and-true}
-use Rattle.std.proofs.lemmas.Bool.{false≢true, and_from, false_from_ne_true}
+use Rattle.std.proofs.lemmas.Bool.{false≢true, and_from}
 use Rattle.graph_model.specs.Wires.{Wire, wire, weight_of}
 use Rattle.graph_model.specs.Lists.{has}
 use Rattle.graph_model.specs.Cuts.{Linked, OnSourceSide, Separates, IsLeast, InCore, weight, marked_weight, on_source_side, crosses, differ, chosen, least_sets, in_core, least_cut}
