@@ -1,0 +1,5 @@
+pub mod Sending
+pub mod Putting
+pub mod Listing
+pub mod Whole
+pub mod Merging

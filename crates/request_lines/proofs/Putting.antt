@@ -1,0 +1,62 @@
+-- One text behind another.
+use Rattle.std.proofs.Common.{◌≡◌, ℕ, ◌≤◌, Bool, true, false, List, [], ◌++◌, Option, Some, None, ap, sym, ◌∙◌, arith, refl, take, take-add, drop}
+use Rattle.std.proofs.lemmas.List.{append_assoc, append-nil}
+use Rattle.std.specs.Io.KnownBytes.{Keeps, Appends}
+use Rattle.pcg_base.specs.Causes.{Rose}
+use Rattle.pcg_base.specs.Told.{AppendsFront}
+use Rattle.request_lines.specs.declared.page.Page.{Page}
+use Rattle.request_lines.specs.Sent.{Sends, Puts, waiting}
+use Rattle.request_lines.proofs.Sending.{sends_then, front_then, front_more, keeps_then, keeps_itself, rose_later, rose_before}
+
+neither : {A : Type 0} (b : Bool) → b ≡ true → b ≡ false → A
+neither true h k = absurd (grind (arith, h, k))
+neither false h k = absurd (grind (arith, h, k))
+
+-- with the state between them told apart
+goes_by : {a b c : Option (List ℕ)} {i j k : ℕ} {p q r : Page} {x y : List ℕ} (z : List ℕ) → z ≡ x ++ y → Puts a b i j p q x → Puts b c j k q r y
+    → (m : Bool) → q.failed ≡ m → r.failed ≡ false → Sends a c (waiting p ++ z) (waiting r)
+goes_by {a = a} {b = b} {c = c} {p = p} {q = q} {r = r} {x = x} {y = y} z e h g true m n = neither r.failed ((g.stays m).0) n
+goes_by {a = a} {b = b} {c = c} {p = p} {q = q} {r = r} {x = x} {y = y} z e h g false m n =
+    sends_then a b c (waiting p ++ x) (waiting q) y (waiting p ++ z) (waiting r) (ap (λ w. waiting p ++ w) e ∙ sym (append_assoc (waiting p) x y)) (h.goes m) (g.goes n)
+
+fails_by : {a b c : Option (List ℕ)} {i j k : ℕ} {p q r : Page} {x y : List ℕ} (z : List ℕ) → z ≡ x ++ y → Puts a b i j p q x → Puts b c j k q r y
+    → (m : Bool) → q.failed ≡ m → p.failed ≡ false → r.failed ≡ true → AppendsFront a c (waiting p ++ z) × Rose i k
+fails_by {a = a} {b = b} {c = c} {i = i} {j = j} {k = k} {p = p} {q = q} {r = r} {x = x} {y = y} z e h g true m o n =
+    (front_more a b c (waiting p ++ x) y (waiting p ++ z) (ap (λ w. waiting p ++ w) e ∙ sym (append_assoc (waiting p) x y)) ((h.fails o m).0) ((g.stays m).1),
+     rose_later i j k ((h.fails o m).1) g.later)
+fails_by {a = a} {b = b} {c = c} {i = i} {j = j} {k = k} {p = p} {q = q} {r = r} {x = x} {y = y} z e h g false m o n =
+    (front_then a b c (waiting p ++ x) (waiting q) y (waiting p ++ z) (ap (λ w. waiting p ++ w) e ∙ sym (append_assoc (waiting p) x y)) (h.goes m) ((g.fails m n).0),
+     rose_before i j k h.later ((g.fails m n).1))
+
+pub puts_both : {a b c : Option (List ℕ)} {i j k : ℕ} {p q r : Page} {x y : List ℕ} (z : List ℕ) → z ≡ x ++ y → Puts a b i j p q x → Puts b c j k q r y → Puts a c i k p r z
+puts_both {a = a} {b = b} {c = c} {i = i} {j = j} {k = k} {p = p} {q = q} {r = r} {x = x} {y = y} z e h g = record {
+    later = omega (arith, h.later, g.later);
+    stays = λ m. ((g.stays ((h.stays m).0)).0, keeps_then a b c ((h.stays m).1) ((g.stays ((h.stays m).0)).1));
+    goes = goes_by z e h g q.failed refl;
+    fails = fails_by z e h g q.failed refl }
+
+pub puts_then : {a b c : Option (List ℕ)} {i j k : ℕ} {p q r : Page} {x y : List ℕ} → Puts a b i j p q x → Puts b c j k q r y → Puts a c i k p r (x ++ y)
+puts_then {x = x} {y = y} h g = puts_both (x ++ y) refl h g
+
+-- after a failure any text is put, which leaves all as it was
+pub puts_none : (a : Option (List ℕ)) (i : ℕ) (p : Page) (x : List ℕ) → p.failed ≡ true → Puts a a i i p p x
+puts_none a i p x h = record {
+    later = omega arith;
+    stays = λ m. (h, keeps_itself a);
+    goes = λ m. neither p.failed h m;
+    fails = λ m n. neither p.failed n m }
+
+sends_none : (a : Option (List ℕ)) (t : List ℕ) → Sends a a t t
+sends_none None t = tt
+sends_none (Some p) t = ([], sym (append-nil p), refl)
+
+-- a text that only waits
+pub puts_waiting : (a : Option (List ℕ)) (i : ℕ) (p q : Page) (x : List ℕ) → waiting q ≡ waiting p ++ x → q.failed ≡ p.failed → Puts a a i i p q x
+puts_waiting a i p q x e f = record {
+    later = omega arith;
+    stays = λ m. (f ∙ m, keeps_itself a);
+    goes = λ m. rw e (sends_none a (waiting p ++ x));
+    fails = λ m n. neither p.failed (sym f ∙ n) m }
+
+pub puts_same : {a c : Option (List ℕ)} {i k : ℕ} {p r : Page} {x y : List ℕ} → y ≡ x → Puts a c i k p r x → Puts a c i k p r y
+puts_same e h = rw e h

@@ -1,0 +1,34 @@
+-- A text that was put on an empty page and sent whole.
+use Rattle.std.proofs.Common.{◌≡◌, ℕ, ◌≤◌, true, false, List, [], ◌++◌, Option, Some, None, ap, sym, ◌∙◌}
+use Rattle.std.specs.Prelude.{Result, Ok, Err, OnErr}
+use Rattle.std.proofs.lemmas.List.{append-nil}
+use Rattle.std.specs.Io.KnownBytes.{Appends}
+use Rattle.pcg_base.specs.Causes.{Rose}
+use Rattle.pcg_base.specs.Told.{AppendsFront}
+use Rattle.request_lines.specs.declared.page.Page.{Page}
+use Rattle.request_lines.specs.Sent.{Sends, Puts, waiting}
+use Rattle.request_lines.proofs.Putting.{puts_both}
+
+sends_whole : (a c : Option (List ℕ)) (t : List ℕ) → Sends a c t [] → Appends a c t
+sends_whole None c t h = tt
+sends_whole (Some p) None t h = absurd h
+sends_whole (Some p) (Some q) t h = h.1 ∙ ap (λ w. p ++ w) (sym (h.2 ∙ append-nil h.0))
+
+-- a text was put on an empty page, and then the rest was sent
+pub whole_ok : {a b c : Option (List ℕ)} {i j k : ℕ} {p q r : Page} {t : List ℕ} → waiting p ≡ [] → Puts a b i j p q t → Puts b c j k q r []
+    → r.failed ≡ false → waiting r ≡ [] → Appends a c t
+whole_ok {a = a} {c = c} {p = p} {r = r} {t = t} e h g m n =
+    let all = (puts_both t (sym (append-nil t)) h g).goes m in
+    sends_whole a c t (rw (sym n) (rw (sym (ap (λ w. w ++ t) e)) all))
+
+pub whole_err : {a b c : Option (List ℕ)} {i j k : ℕ} {p q r : Page} {t : List ℕ} → waiting p ≡ [] → p.failed ≡ false → Puts a b i j p q t → Puts b c j k q r []
+    → r.failed ≡ true → AppendsFront a c t
+whole_err {t = t} e f h g m = rw (sym (ap (λ w. w ++ t) e)) (((puts_both t (sym (append-nil t)) h g).fails f m).0)
+
+pub whole_cause : {a b c : Option (List ℕ)} {i j k : ℕ} {p q r : Page} {t : List ℕ} → p.failed ≡ false → Puts a b i j p q t → Puts b c j k q r []
+    → r.failed ≡ true → Rose i k
+whole_cause {t = t} f h g m = ((puts_both t (sym (append-nil t)) h g).fails f m).1
+
+pub on_err_then : {A B T E : Type 0} (r : Result T E) → (A → B) → OnErr r A → OnErr r B
+on_err_then (Ok x) f h = tt
+on_err_then (Err e) f h = f h

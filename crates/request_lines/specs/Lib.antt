@@ -1,0 +1,5 @@
+pub mod Sent
+pub mod Json
+pub mod Items
+pub mod Refused
+pub mod Texts

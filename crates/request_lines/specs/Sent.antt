@@ -1,0 +1,24 @@
+-- What a sink holds and what waits before it, while a text goes there by way of a page.
+use Rattle.request_lines.specs.declared.page.Page.{Page}
+use Rattle.std.specs.Prelude.{◌≡◌, ℕ, ◌≤◌, Bool, true, false, List, [], ◌++◌, take, ⊤, Option, Some, None}
+use Rattle.std.specs.Io.KnownBytes.{Keeps}
+use Rattle.pcg_base.specs.Causes.{Rose}
+use Rattle.pcg_base.specs.Told.{AppendsFront}
+
+-- what a page holds
+abbrev pub waiting : Page → List ℕ
+waiting p = take p.len p.bytes
+
+-- the held bytes, where they are known, grew by what comes before the rest in this text
+abbrev pub Sends : Option (List ℕ) → Option (List ℕ) → List ℕ → List ℕ → Type 0
+Sends None new text rest = ⊤
+Sends (Some xs) None text rest = ⊥
+Sends (Some xs) (Some ys) text rest = (sent : List ℕ) × (ys ≡ xs ++ sent) × (text ≡ sent ++ rest)
+
+-- A text was put behind what waits. `held` and `count` are the sink's bytes and its count of faults.
+-- Once a write has failed nothing more is written.
+pub record Puts (held held' : Option (List ℕ)) (count count' : ℕ) (page page' : Page) (text : List ℕ) : Type 0 where
+  pub later : count ≤ count'
+  pub stays : page.failed ≡ true → (page'.failed ≡ true) × Keeps held held'
+  pub goes : page'.failed ≡ false → Sends held held' (waiting page ++ text) (waiting page')
+  pub fails : page.failed ≡ false → page'.failed ≡ true → AppendsFront held held' (waiting page ++ text) × Rose count count'

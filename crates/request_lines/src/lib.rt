@@ -1,0 +1,22 @@
+//! The texts of replies and of log lines: compact JSON, one line each, written to a sink exactly
+//! and without memory.
+//!
+//! - `replies`, `refused`: the replies;
+//! - `entries`: the lines of the operation log;
+//! - `items`, `lists`: ids, pairs and carries, and lists of them;
+//! - `page`: the page on which a text waits for its sink.
+#![tactic(auto)]
+
+mod entries;
+mod items;
+mod lists;
+mod page;
+mod refused;
+mod replies;
+#[cfg(test)]
+mod tests;
+
+pub use entries::write_entry;
+pub use lists::{Written, put_list};
+pub use page::Page;
+pub use replies::write_reply;
