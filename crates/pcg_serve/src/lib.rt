@@ -2,3 +2,5 @@
 #![tactic(auto)]
 
 mod lines;
+mod stops;
+mod summary;

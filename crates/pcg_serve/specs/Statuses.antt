@@ -1,0 +1,11 @@
+-- The status of a call that stopped before its sessions.
+use Rattle.std.specs.Prelude.{ℕ}
+use Rattle.pcg_serve.specs.declared.stops.Stop.{Stop}
+use Rattle.pcg_serve.specs.declared.stops.Stop.TheVariants as stops
+
+abbrev pub status_of : Stop → ℕ
+status_of stops.BadWords = 1
+status_of (stops.ReadFault client file) = 2
+status_of (stops.WriteFault client file) = 4
+status_of stops.NotBuilt = 8
+status_of stops.NoMemory = 5

@@ -1,0 +1,51 @@
+-- What a call writes to its output: the log and a summary, or one fault line.
+use Rattle.std.specs.Prelude.{ℕ, List, [], ◌∷◌, map, codes, decimal}
+use Rattle.request_lines.specs.Json.{array, line, member, quoted}
+use Rattle.pcg_serve.specs.declared.stops.FileName.{FileName}
+use Rattle.pcg_serve.specs.declared.stops.FileName.TheVariants as files
+use Rattle.pcg_serve.specs.declared.stops.Stop.{Stop}
+use Rattle.pcg_serve.specs.declared.stops.Stop.TheVariants as stops
+use Rattle.pcg_serve.specs.declared.summary.ClientFault.{ClientFault}
+use Rattle.pcg_serve.specs.declared.summary.Fault.{Fault}
+use Rattle.pcg_serve.specs.declared.summary.Fault.TheVariants as faults
+use Rattle.pcg_serve.specs.declared.summary.Summary.{Summary}
+
+-- the name of a file in a fault line
+unfoldable pub file_name : FileName → List ℕ
+file_name files.Supervoxels = codes "supervoxels"
+file_name files.Edges = codes "edges"
+file_name files.Requests = codes "requests"
+file_name files.Answers = codes "answers"
+
+-- a fault without fields
+abbrev pub bare : List ℕ → List ℕ
+bare name = line (member (codes "fault") (quoted name) ∷ [])
+
+-- a fault of a client's file, or of one that belongs to none
+abbrev pub of_file : ℕ → List ℕ → FileName → List ℕ
+of_file client fault file =
+    line (member (codes "client") (decimal client) ∷ member (codes "fault") (quoted fault) ∷ member (codes "file") (quoted (file_name file)) ∷ [])
+
+-- the fault line of a call that stopped before its sessions
+unfoldable pub stop_text : Stop → List ℕ
+stop_text stops.BadWords = bare (codes "BadWords")
+stop_text (stops.ReadFault client file) = of_file client (codes "ReadFault") file
+stop_text (stops.WriteFault client file) = of_file client (codes "WriteFault") file
+stop_text stops.NotBuilt = bare (codes "NotBuilt")
+stop_text stops.NoMemory = bare (codes "NoMemory")
+
+-- the name of a session's fault
+unfoldable pub fault_name : Fault → List ℕ
+fault_name faults.ReadFault = codes "ReadFault"
+fault_name faults.WriteFault = codes "WriteFault"
+
+-- a client and its fault
+abbrev pub client_fault_text : ClientFault → List ℕ
+client_fault_text f = array (decimal f.client ∷ quoted (fault_name f.fault) ∷ [])
+
+-- the last line of a call that came past its sessions
+unfoldable pub summary_text : Summary → List ℕ
+summary_text s =
+    line (member (codes "accepted") (decimal s.accepted) ∷ member (codes "clients") (decimal s.clients) ∷ member (codes "entries") (decimal s.entries)
+        ∷ member (codes "faults") (array (map client_fault_text s.faults.items)) ∷ member (codes "lines") (decimal s.lines) ∷ member (codes "records") (decimal s.records)
+        ∷ member (codes "refused") (decimal s.refused) ∷ member (codes "roots") (decimal s.roots) ∷ member (codes "status") (decimal s.status) ∷ [])

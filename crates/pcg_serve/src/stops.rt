@@ -1,0 +1,104 @@
+//! Why a call stops before its sessions, and its fault line.
+
+ghost use Rattle.std.specs.Prelude.{◌≡◌, ◌++◌, codes, decimal, OnOk, OnErr};
+ghost use Rattle.std.specs.Io.KnownBytes.{Appends};
+ghost use Rattle.pcg_base.specs.Causes.{HasCause};
+ghost use Rattle.pcg_base.specs.Told.{AppendsFront};
+ghost use Rattle.request_lines.specs.Sent.{Puts};
+ghost use Rattle.pcg_serve.specs.Texts.{file_name, of_file, stop_text};
+ghost use Rattle.pcg_serve.specs.Statuses.{status_of};
+
+use pcg_base::{Failed, Sink};
+use request_lines::Page;
+
+/// Which file a fault line speaks of.
+#[derive(Clone, Copy, Debug, PartialEq, Eq)]
+pub enum FileName {
+    /// The supervoxel table.
+    Supervoxels,
+    /// The edge table.
+    Edges,
+    /// A client's requests.
+    Requests,
+    /// A client's answers.
+    Answers,
+}
+
+/// Why a call stopped before its sessions. `client` is 0 for a file that belongs to no client.
+#[derive(Clone, Copy, Debug, PartialEq, Eq)]
+pub enum Stop {
+    /// The words are no job.
+    BadWords,
+    /// A file could not be opened for reading, or a table could not be read.
+    ReadFault { client: u32, file: FileName },
+    /// A file could not be opened for writing.
+    WriteFault { client: u32, file: FileName },
+    /// The input is of a form that the program doesn't take yet.
+    NotBuilt,
+    /// Memory ran out.
+    NoMemory,
+}
+
+impl Stop {
+    /// The status that the call answers.
+    pub fn status(&self) -> u8
+        ensures { result ≡ status_of self.now }
+    {
+        match self {
+            Stop::BadWords => 1,
+            Stop::ReadFault { .. } => 2,
+            Stop::WriteFault { .. } => 4,
+            Stop::NotBuilt => 8,
+            Stop::NoMemory => 5,
+        }
+    }
+}
+
+/// The name of a file in a fault line.
+#[tactic(auto, unfolding(crate::specs::Texts::file_name))]
+fn name_of(file: FileName) -> &'static [u8]
+    ensures { result.now ≡ file_name file }
+{
+    match file {
+        FileName::Supervoxels => b"supervoxels",
+        FileName::Edges => b"edges",
+        FileName::Requests => b"requests",
+        FileName::Answers => b"answers",
+    }
+}
+
+/// Puts the fault line of a file.
+fn put_file<K: Sink>(page: &mut Page, out: &mut K, client: u32, fault: &[u8], file: FileName)
+    ensures { Puts (K.held out.old) (K.held out.new) (K.faults out.old) (K.faults out.new) page.old page.new (of_file client fault.now file) }
+{
+    page.put_number(out, b"{\"client\":", client as u64);
+    page.put_word(out, b",\"fault\":", fault);
+    page.put_word(out, b",\"file\":", name_of(file));
+    page.put(out, b"}\n");
+}
+
+/// Puts the fault line of a stop.
+#[tactic(auto, unfolding(crate::specs::Texts::stop_text))]
+fn put_stop<K: Sink>(page: &mut Page, out: &mut K, stop: Stop)
+    ensures { Puts (K.held out.old) (K.held out.new) (K.faults out.old) (K.faults out.new) page.old page.new (stop_text stop) }
+{
+    match stop {
+        Stop::BadWords => page.put(out, b"{\"fault\":\"BadWords\"}\n"),
+        Stop::ReadFault { client, file } => put_file(page, out, client, b"ReadFault", file),
+        Stop::WriteFault { client, file } => put_file(page, out, client, b"WriteFault", file),
+        Stop::NotBuilt => page.put(out, b"{\"fault\":\"NotBuilt\"}\n"),
+        Stop::NoMemory => page.put(out, b"{\"fault\":\"NoMemory\"}\n"),
+    }
+}
+
+/// Writes the fault line of a stop. It takes no memory. After `Failed` a front of it was written.
+#[tactic(auto, using(request_lines::proofs::Whole::whole_ok, request_lines::proofs::Whole::whole_err, request_lines::proofs::Whole::whole_cause))]
+pub fn write_stop<K: Sink>(stop: Stop, out: &mut K) -> Result<(), Failed>
+    ensures ok { OnOk result (Appends (K.held out.old) (K.held out.new) (stop_text stop)) }
+    ensures err { OnErr result (AppendsFront (K.held out.old) (K.held out.new) (stop_text stop)) }
+    ensures cause { HasCause (K.faults out.old) (K.faults out.new) result }
+{
+    let mut page = Page::new();
+    put_stop(&mut page, out, stop);
+    page.finish(out)
+}
