@@ -1,4 +1,4 @@
-use Rattle.std.proofs.Common.{◌≡◌, ◌≢◌, ℕ, suc, zero, ◌+◌, ◌<◌, List, [], ◌∷◌, ◌++◌, drop, set, length, get_or, Bool, true, false, cond, Option, Some, None, bytes_eq, true≢false, add-zero, zero-add, arith, refl, sym, ◌∙◌, ap, subst}
+use Rattle.std.proofs.Common.{◌≡◌, ℕ, suc, zero, ◌+◌, ◌<◌, List, [], ◌∷◌, ◌++◌, drop, set, length, get_or, Bool, true, false, cond, Option, Some, None, bytes_eq, true≢false, add-zero, zero-add, arith, refl, sym, ◌∙◌, ap, subst}
 use Rattle.std.proofs.Common.{String, string_bytes}
 use Rattle.std.specs.declared.alloc.Global.{Global}
 use Rattle.std.proofs.lemmas.List.Sums.{sum_by-append}

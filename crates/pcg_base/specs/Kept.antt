@@ -1,5 +1,5 @@
 -- What a place in memory keeps beside each name.
-use Rattle.std.specs.Prelude.{◌≡◌, ℕ, suc, zero, List, [], ◌∷◌, map, Bool, true, false, if◌then◌else◌, Option, Some, None, string_bytes, bytes_eq, count_by, String}
+use Rattle.std.specs.Prelude.{◌≡◌, ℕ, suc, zero, List, [], ◌∷◌, map, Bool, false, if◌then◌else◌, Option, Some, None, string_bytes, bytes_eq, count_by, String}
 use Rattle.std.specs.FinMap.{from_entries}
 use Rattle.std.specs.declared.alloc.Global.{Global}
 use Rattle.pcg_base.specs.declared.kept.Kept.{Kept}

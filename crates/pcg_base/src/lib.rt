@@ -7,7 +7,8 @@
 //! - `place`: places
 //! - `clock`, `gate`: times, and the points that a client passes
 //! - `reading`, `writing`: whole streams and whole pieces
-//! - `memory`: sources in memory, which fail where they are told to
+//! - `mem_source`, `mem_sink`: streams in memory, which fail where they are told to
+//! - `mem_place`, `kept`: places in memory, and what they keep beside each name
 #![tactic(auto)]
 
 mod clock;

@@ -2,8 +2,8 @@ ghost use Rattle.std.specs.Prelude.{◌≡◌, ◌≢◌, ◌+◌, ◌≤◌, �
 ghost use Rattle.std.specs.FinMap.{get, insert};
 ghost use Rattle.pcg_base.specs.Causes.{Rose, added};
 ghost use Rattle.pcg_base.specs.Kept.{FirstAt, left_at, faults_in, faults_out, was_in, was_out, read_fails_at, write_fails_at, map_of, times};
-ghost use Rattle.pcg_base.specs.Sources as source;
-ghost use Rattle.pcg_base.specs.Sinks as sink;
+ghost use Rattle.pcg_base.specs.Sources as sources;
+ghost use Rattle.pcg_base.specs.Sinks as sinks;
 
 use crate::kept::{
     Kept, MemFile, keep_all, open_in, open_out, place_of, put_new, put_sink, put_source,
@@ -25,10 +25,10 @@ fn source_at(
     requires within { i < length kept.now }
     requires first { FirstAt name.now kept.now i }
     requires some { 0 < piece }
-    ensures left { IfOk result (λ s. get (map_of kept.now) name.now ≡ Some (source.left_in s)) }
-    ensures faults { IfOk result (λ s. source.faults_of s ≡ 0) }
-    ensures piece { IfOk result (λ s. source.piece_of s ≡ piece) }
-    ensures fails { IfOk result (λ s. source.fails_of s ≡ read_fails_at name.now kept.now) }
+    ensures left { IfOk result (λ s. get (map_of kept.now) name.now ≡ Some (sources.left_in s)) }
+    ensures faults { IfOk result (λ s. sources.faults_of s ≡ 0) }
+    ensures piece { IfOk result (λ s. sources.piece_of s ≡ piece) }
+    ensures fails { IfOk result (λ s. sources.fails_of s ≡ read_fails_at name.now kept.now) }
 {
     let _ = name;
     let file = &kept[i].file;
@@ -161,8 +161,8 @@ impl Place for MemPlace {
     ghost use Rattle.std.specs.FinMap.{get, insert};
     ghost use Rattle.pcg_base.specs.Causes.{Rose, added};
     ghost use Rattle.pcg_base.specs.Told.{OpensSource, OpensSink};
-    ghost use Rattle.pcg_base.specs.Sources as source;
-    ghost use Rattle.pcg_base.specs.Sinks as sink;
+    ghost use Rattle.pcg_base.specs.Sources as sources;
+    ghost use Rattle.pcg_base.specs.Sinks as sinks;
     ghost use Rattle.pcg_base.specs.Places.{told_by, counts_by, read_faults_by, write_faults_by, left_by, opened_in_by, opened_out_by, piece_by, room_by, read_fails_by, write_fails_by};
 
     type In = MemSource;
@@ -193,14 +193,14 @@ impl Place for MemPlace {
         ensures only_here { (n : List ℕ) → n ≢ name.now → counts_by self.new n ≡ counts_by self.old n }
         ensures files { told_by self.new ≡ told_by self.old }
         ensures left { (n : List ℕ) → left_by self.new n ≡ left_by self.old n }
-        ensures fresh { IfOk result (λ s. source.faults_of s ≡ 0) }
-        ensures bytes { IfOk result (λ s. get (told_by self.old) name.now ≡ Some (source.left_in s)) }
+        ensures fresh { IfOk result (λ s. sources.faults_of s ≡ 0) }
+        ensures bytes { IfOk result (λ s. get (told_by self.old) name.now ≡ Some (sources.left_in s)) }
         ensures opened { OnOk result (opened_in_by self.new name.now ≡ true) }
         ensures stays_in { (n : List ℕ) → opened_in_by self.old n ≡ true → opened_in_by self.new n ≡ true }
         ensures stays_out { (n : List ℕ) → opened_out_by self.old n ≡ true → opened_out_by self.new n ≡ true }
         ensures missing { IsErrOf result PlaceError.Failed → get (told_by self.old) name.now ≡ None }
-        ensures piece { IfOk result (λ s. source.piece_of s ≡ piece_by self.old) }
-        ensures fails { IfOk result (λ s. source.fails_of s ≡ read_fails_by self.old name.now) }
+        ensures piece { IfOk result (λ s. sources.piece_of s ≡ piece_by self.old) }
+        ensures fails { IfOk result (λ s. sources.fails_of s ≡ read_fails_by self.old name.now) }
         ensures same_piece { piece_by self.new ≡ piece_by self.old }
         ensures same_room { room_by self.new ≡ room_by self.old }
         ensures same_read_fails { (n : List ℕ) → read_fails_by self.new n ≡ read_fails_by self.old n }
@@ -225,14 +225,14 @@ impl Place for MemPlace {
         ensures made { OnOk result (told_by self.new ≡ insert (told_by self.old) name.now []) }
         ensures unmade { OnErr result (told_by self.new ≡ told_by self.old) }
         ensures left { (n : List ℕ) → left_by self.new n ≡ left_by self.old n }
-        ensures fresh { IfOk result (λ k. sink.faults_of k ≡ 0) }
-        ensures empty { IfOk result (λ k. sink.held_in k ≡ []) }
+        ensures fresh { IfOk result (λ k. sinks.faults_of k ≡ 0) }
+        ensures empty { IfOk result (λ k. sinks.held_in k ≡ []) }
         ensures opened { OnOk result (opened_out_by self.new name.now ≡ true) }
         ensures stays_in { (n : List ℕ) → opened_in_by self.old n ≡ true → opened_in_by self.new n ≡ true }
         ensures stays_out { (n : List ℕ) → opened_out_by self.old n ≡ true → opened_out_by self.new n ≡ true }
-        ensures piece { IfOk result (λ k. sink.piece_of k ≡ piece_by self.old) }
-        ensures room { IfOk result (λ k. sink.room_of k ≡ room_by self.old) }
-        ensures fails { IfOk result (λ k. sink.fails_of k ≡ write_fails_by self.old name.now) }
+        ensures piece { IfOk result (λ k. sinks.piece_of k ≡ piece_by self.old) }
+        ensures room { IfOk result (λ k. sinks.room_of k ≡ room_by self.old) }
+        ensures fails { IfOk result (λ k. sinks.fails_of k ≡ write_fails_by self.old name.now) }
         ensures same_piece { piece_by self.new ≡ piece_by self.old }
         ensures same_room { room_by self.new ≡ room_by self.old }
         ensures same_read_fails { (n : List ℕ) → read_fails_by self.new n ≡ read_fails_by self.old n }
@@ -251,13 +251,50 @@ impl Place for MemPlace {
         Ok(sink)
     }
 
-    fn keep_in(&mut self, name: &str, source: MemSource) {
+    fn keep_in(&mut self, name: &str, source: MemSource)
+        requires { opened_in_by self.old name.now ≡ true }
+        ensures later { read_faults_by self.old ≤ read_faults_by self.new }
+        ensures total { read_faults_by self.new ≡ added (read_faults_by self.old) (sources.faults_of source) }
+        ensures other_kind { write_faults_by self.new ≡ write_faults_by self.old }
+        ensures here { counts_by self.new name.now ≡ record (counts_by self.old name.now) {
+          source_faults = added (counts_by self.old name.now).source_faults (sources.faults_of source);
+        } }
+        ensures later_here { (counts_by self.old name.now).source_faults ≤ (counts_by self.new name.now).source_faults }
+        ensures only_here { (n : List ℕ) → n ≢ name.now → counts_by self.new n ≡ counts_by self.old n }
+        ensures files { told_by self.new ≡ told_by self.old }
+        ensures left { left_by self.new name.now ≡ sources.left_in source }
+        ensures only_left { (n : List ℕ) → n ≢ name.now → left_by self.new n ≡ left_by self.old n }
+        ensures stays_in { (n : List ℕ) → opened_in_by self.old n ≡ true → opened_in_by self.new n ≡ true }
+        ensures stays_out { (n : List ℕ) → opened_out_by self.old n ≡ true → opened_out_by self.new n ≡ true }
+        ensures same_piece { piece_by self.new ≡ piece_by self.old }
+        ensures same_room { room_by self.new ≡ room_by self.old }
+        ensures same_read_fails { (n : List ℕ) → read_fails_by self.new n ≡ read_fails_by self.old n }
+        ensures same_write_fails { (n : List ℕ) → write_fails_by self.new n ≡ write_fails_by self.old n }
+    {
         let i = place_of(&self.kept, name).unwrap();
         self.read_faults = self.read_faults.saturating_add(source.faults());
         put_source(&mut self.kept, i, name, source);
     }
 
-    fn keep_out(&mut self, name: &str, sink: MemSink) {
+    fn keep_out(&mut self, name: &str, sink: MemSink)
+        requires { opened_out_by self.old name.now ≡ true }
+        ensures later { write_faults_by self.old ≤ write_faults_by self.new }
+        ensures total { write_faults_by self.new ≡ added (write_faults_by self.old) (sinks.faults_of sink) }
+        ensures other_kind { read_faults_by self.new ≡ read_faults_by self.old }
+        ensures here { counts_by self.new name.now ≡ record (counts_by self.old name.now) {
+          sink_faults = added (counts_by self.old name.now).sink_faults (sinks.faults_of sink);
+        } }
+        ensures later_here { (counts_by self.old name.now).sink_faults ≤ (counts_by self.new name.now).sink_faults }
+        ensures only_here { (n : List ℕ) → n ≢ name.now → counts_by self.new n ≡ counts_by self.old n }
+        ensures bytes { told_by self.new ≡ insert (told_by self.old) name.now (sinks.held_in sink) }
+        ensures left { (n : List ℕ) → left_by self.new n ≡ left_by self.old n }
+        ensures stays_in { (n : List ℕ) → opened_in_by self.old n ≡ true → opened_in_by self.new n ≡ true }
+        ensures stays_out { (n : List ℕ) → opened_out_by self.old n ≡ true → opened_out_by self.new n ≡ true }
+        ensures same_piece { piece_by self.new ≡ piece_by self.old }
+        ensures same_room { room_by self.new ≡ room_by self.old }
+        ensures same_read_fails { (n : List ℕ) → read_fails_by self.new n ≡ read_fails_by self.old n }
+        ensures same_write_fails { (n : List ℕ) → write_fails_by self.new n ≡ write_fails_by self.old n }
+    {
         let i = place_of(&self.kept, name).unwrap();
         let faults = sink.faults();
         self.write_faults = self.write_faults.saturating_add(faults);

@@ -27,12 +27,7 @@ impl MemSink {
     /// An empty sink with room for `room` bytes, taken at once. A write takes at most `piece` bytes
     /// and at most the room that is left; writes fail exactly at the numbers in `fails`, counted
     /// from 1, and where no room is left.
-    pub fn new(
-        alloc: Global,
-        piece: usize,
-        room: u64,
-        fails: Vec<u32>,
-    ) -> Result<MemSink, NoMemory>
+    pub fn new(alloc: Global, piece: usize, room: u64, fails: Vec<u32>) -> Result<MemSink, NoMemory>
         requires { 0 < piece }
         ensures held { IfOk result (λ k. held_in k ≡ []) }
         ensures room { IfOk result (λ k. room_of k ≡ room) }

@@ -34,10 +34,15 @@ fn is_err(found: &Result<Vec<u8>, ReadError>, want: ReadError) -> bool {
 fn reads_in_pieces(rt: HostRuntime) -> Result<(), AllocError> {
     let alloc = rt.alloc();
     for (piece, limit) in [(1, 5), (2, 9), (4096, 5)] {
-        let mut source =
-            MemSource::new(Vec::from_slice(alloc, b"hello")?, piece, Vec::new(alloc));
-        assert!(rt; is_read(&read_all(alloc, &mut source, limit), b"hello"), "piece {piece}");
-        assert!(rt; is_read(&read_all(alloc, &mut source, 0), b""), "at the end, piece {piece}");
+        let mut source = MemSource::new(Vec::from_slice(alloc, b"hello")?, piece, Vec::new(alloc));
+        assert!(rt;
+            is_read(&read_all(alloc, &mut source, limit), b"hello"),
+            "piece {piece}"
+        );
+        assert!(rt;
+            is_read(&read_all(alloc, &mut source, 0), b""),
+            "at the end, piece {piece}"
+        );
         assert_eq!(rt; source.faults(), 0);
     }
     let mut source = MemSource::new(Vec::from_slice(alloc, b"hello")?, 2, Vec::new(alloc));
@@ -73,43 +78,61 @@ fn writes_in_pieces(rt: HostRuntime) -> Result<(), AllocError> {
     let Ok(mut sink) = MemSink::new(alloc, 2, 100, vec![in alloc; 2]?) else {
         panic!(rt; "no memory");
     };
-    assert!(rt; write_all(&mut sink, b"hello").is_err(), "the second write fails");
+    assert!(rt;
+        write_all(&mut sink, b"hello").is_err(),
+        "the second write fails"
+    );
     assert_eq!(rt; sink.into_bytes().as_slice(), b"he".as_slice());
     Ok(())
 }
 
-#[test]
-fn a_place_reads_and_writes(rt: HostRuntime) -> Result<(), AllocError> {
-    let alloc = rt.alloc();
-    let files = vec![in alloc;
+fn two_files(alloc: Global) -> Result<Vec<MemFile>, AllocError> {
+    Ok(vec![in alloc;
         file(alloc, "a", b"one", &[], &[])?,
-        file(alloc, "b", b"two", &[2], &[1])?]?;
-    let Ok(mut place) = MemPlace::new(alloc, files, 1, 16) else {
+        file(alloc, "b", b"two", &[2], &[1])?,
+    ]?)
+}
+
+#[test]
+fn a_place_reads(rt: HostRuntime) -> Result<(), AllocError> {
+    let alloc = rt.alloc();
+    let Ok(mut place) = MemPlace::new(alloc, two_files(alloc)?, 1, 16) else {
         panic!(rt; "no memory");
     };
     assert!(rt; is_read(&read_name(alloc, &mut place, "a", 3), b"one"));
-    assert!(rt; is_err(&read_name(alloc, &mut place, "a", 2), ReadError::TooLong));
-    assert!(rt; is_err(&read_name(alloc, &mut place, "b", 3), ReadError::Failed));
-    assert!(rt; is_err(&read_name(alloc, &mut place, "c", 3), ReadError::Failed));
-    assert_eq!(rt; place.bytes_at("c"), None);
+    for (name, limit, want) in [
+        ("a", 2, ReadError::TooLong),
+        ("b", 3, ReadError::Failed),
+        ("c", 3, ReadError::Failed),
+    ] {
+        assert!(rt;
+            is_err(&read_name(alloc, &mut place, name, limit), want),
+            "{name}"
+        );
+    }
+    Ok(())
+}
 
-    let Ok(mut sink) = place.sink_of("c") else {
+#[test]
+fn a_place_writes(rt: HostRuntime) -> Result<(), AllocError> {
+    let alloc = rt.alloc();
+    let Ok(mut place) = MemPlace::new(alloc, two_files(alloc)?, 1, 16) else {
         panic!(rt; "no memory");
     };
-    assert_eq!(rt; place.bytes_at("c"), Some(b"".as_slice()));
-    assert!(rt; write_all(&mut sink, b"three").is_ok());
-    place.keep_out("c", sink);
-
-    let Ok(mut sink) = place.sink_of("b") else {
-        panic!(rt; "no memory");
-    };
-    assert!(rt; write_all(&mut sink, b"four").is_err(), "the first write fails");
-    assert!(rt; write_all(&mut sink, b"five").is_ok());
-    place.keep_out("b", sink);
-
+    for (name, written, held) in [
+        ("c", true, b"four".as_slice()),
+        ("b", false, b"".as_slice()),
+    ] {
+        let Ok(mut sink) = place.sink_of(name) else {
+            panic!(rt; "no memory");
+        };
+        assert_eq!(rt; place.bytes_at(name), Some(b"".as_slice()), "{name}");
+        assert_eq!(rt; write_all(&mut sink, b"four").is_ok(), written, "{name}");
+        place.keep_out(name, sink);
+        assert_eq!(rt; place.bytes_at(name), Some(held), "{name}");
+    }
     assert_eq!(rt; place.bytes_at("a"), Some(b"one".as_slice()));
-    assert_eq!(rt; place.bytes_at("b"), Some(b"five".as_slice()));
-    assert!(rt; is_read(&read_name(alloc, &mut place, "c", 5), b"three"));
+    assert_eq!(rt; place.bytes_at("d"), None);
     Ok(())
 }
 
@@ -127,7 +150,14 @@ fn a_clock_goes_by_steps(rt: HostRuntime) {
     assert_eq!(rt; ticks.time(0), latest - 1);
     assert_eq!(rt; ticks.time(1), latest);
     assert_eq!(rt; ticks.time(2), latest);
-    assert_eq!(rt; Ticks { start: 0, step: u64::MAX }.time(u64::MAX), latest);
+    assert_eq!(rt;
+        Ticks {
+            start: 0,
+            step: u64::MAX
+        }
+        .time(u64::MAX),
+        latest
+    );
 }
 
 #[test]

@@ -1,4 +1,4 @@
-use Rattle.std.proofs.Common.{rules, arith, ◌≡◌, ◌∙◌, ap, sym, true, false, bytes_eq, get_or}
+use Rattle.std.proofs.Common.{rules, ◌≡◌, ◌∙◌, ap, sym, true, false, bytes_eq, get_or}
 use Rattle.pcg_base.specs.Kept.{name_of}
 use Rattle.pcg_base.proofs.Entries.{first_found, passed_by, same}
 use Rattle.pcg_base.proofs.kept.place_of.Goals as goal

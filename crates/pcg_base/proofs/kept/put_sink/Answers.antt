@@ -1,9 +1,9 @@
-use Rattle.std.proofs.Common.{ℕ, ◌<◌, ◌≤◌, ◌^◌, arith, subst, List, [], true, false, refl, ap, sym, ◌∙◌, ◌≡◌, ◌++◌, ◌∷◌, Some, None, rules}
+use Rattle.std.proofs.Common.{◌<◌, ◌≤◌, ◌^◌, arith, refl, ap, sym, ◌∙◌, ◌≡◌, Some, rules}
 use Rattle.pcg_base.specs.declared.kept.Kept.{Kept}
-use Rattle.pcg_base.specs.Kept.{bytes_of, left_of, source_faults_of, sink_faults_of, opened_in_of, opened_out_of, read_fails_of, write_fails_of, Changes, entry_of, name_of}
+use Rattle.pcg_base.specs.Kept.{left_of, source_faults_of, sink_faults_of, opened_in_of, opened_out_of, read_fails_of, write_fails_of}
 use Rattle.pcg_base.specs.Causes.{added}
-use Rattle.pcg_base.proofs.Entries.{written, push_new, view_kept, changed_here, changed_elsewhere, flag_stays}
-use Rattle.pcg_base.proofs.Maps.{same_files, files_put}
+use Rattle.pcg_base.proofs.Entries.{written, view_kept, changed_here, changed_elsewhere}
+use Rattle.pcg_base.proofs.Maps.{files_put}
 use Rattle.pcg_base.proofs.kept.put_sink.Goals as goal
 
 pub returns-clause-files : goal.returns-clause-files

@@ -1,4 +1,4 @@
-use Rattle.std.proofs.Common.{rules, Some, ap, sym, ◌∙◌}
+use Rattle.std.proofs.Common.{Some, ap, sym, ◌∙◌}
 use Rattle.pcg_base.specs.Kept.{bytes_of, read_fails_of}
 use Rattle.pcg_base.proofs.Entries.{entry_at}
 use Rattle.pcg_base.proofs.Maps.{got}

@@ -1,4 +1,4 @@
-use Rattle.std.proofs.Common.{rules, arith}
+use Rattle.std.proofs.Common.{rules}
 use Rattle.std.proofs.lemmas.Result.{err_from_is_err_and}
 use Rattle.pcg_base.proofs.Appending.{next_taken, front_taken}
 use Rattle.pcg_base.proofs.writing.write_all.Goals as goal

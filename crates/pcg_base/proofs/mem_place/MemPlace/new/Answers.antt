@@ -1,6 +1,6 @@
-use Rattle.std.proofs.Common.{◌≡◌, ℕ, List, map, refl, ap, ◌∙◌}
+use Rattle.std.proofs.Common.{ℕ, map, refl, ap, ◌∙◌}
 use Rattle.pcg_base.specs.Told.{Counts}
-use Rattle.pcg_base.specs.Kept.{files_in, source_faults_of, sink_faults_of, opened_in_of, opened_out_of, faults_in, faults_out, was_in, was_out, times, unopened_file}
+use Rattle.pcg_base.specs.Kept.{files_in, source_faults_of, sink_faults_of, opened_in_of, opened_out_of, faults_in, faults_out, was_in, was_out, times}
 use Rattle.pcg_base.proofs.Entries.{fresh, files_back}
 use Rattle.pcg_base.proofs.mem_place.MemPlace.new.Goals as goal
 
