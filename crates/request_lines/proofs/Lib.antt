@@ -3,3 +3,4 @@ pub mod Putting
 pub mod Listing
 pub mod Whole
 pub mod Merging
+pub mod Splitting

@@ -21,19 +21,22 @@ goes_by {a = a} {b = b} {c = c} {p = p} {q = q} {r = r} {x = x} {y = y} z e h g 
 
 fails_by : {a b c : Option (List ℕ)} {i j k : ℕ} {p q r : Page} {x y : List ℕ} (z : List ℕ) → z ≡ x ++ y → Puts a b i j p q x → Puts b c j k q r y
     → (m : Bool) → q.failed ≡ m → p.failed ≡ false → r.failed ≡ true → AppendsFront a c (waiting p ++ z) × Rose i k
-fails_by {a = a} {b = b} {c = c} {i = i} {j = j} {k = k} {p = p} {q = q} {r = r} {x = x} {y = y} z e h g true m o n =
-    (front_more a b c (waiting p ++ x) y (waiting p ++ z) (ap (λ w. waiting p ++ w) e ∙ sym (append_assoc (waiting p) x y)) ((h.fails o m).0) ((g.stays m).1),
-     rose_later i j k ((h.fails o m).1) g.later)
-fails_by {a = a} {b = b} {c = c} {i = i} {j = j} {k = k} {p = p} {q = q} {r = r} {x = x} {y = y} z e h g false m o n =
-    (front_then a b c (waiting p ++ x) (waiting q) y (waiting p ++ z) (ap (λ w. waiting p ++ w) e ∙ sym (append_assoc (waiting p) x y)) (h.goes m) ((g.fails m n).0),
-     rose_before i j k h.later ((g.fails m n).1))
+fails_by {a = a} {b = b} {c = c} {i = i} {j = j} {k = k} {p = p} {q = q} {r = r} {x = x} {y = y} z e h g true m o n = (
+  front_more a b c (waiting p ++ x) y (waiting p ++ z) (ap (λ w. waiting p ++ w) e ∙ sym (append_assoc (waiting p) x y)) ((h.fails o m).0) ((g.stays m).1),
+  rose_later i j k ((h.fails o m).1) g.later,
+)
+fails_by {a = a} {b = b} {c = c} {i = i} {j = j} {k = k} {p = p} {q = q} {r = r} {x = x} {y = y} z e h g false m o n = (
+  front_then a b c (waiting p ++ x) (waiting q) y (waiting p ++ z) (ap (λ w. waiting p ++ w) e ∙ sym (append_assoc (waiting p) x y)) (h.goes m) ((g.fails m n).0),
+  rose_before i j k h.later ((g.fails m n).1),
+)
 
 pub puts_both : {a b c : Option (List ℕ)} {i j k : ℕ} {p q r : Page} {x y : List ℕ} (z : List ℕ) → z ≡ x ++ y → Puts a b i j p q x → Puts b c j k q r y → Puts a c i k p r z
 puts_both {a = a} {b = b} {c = c} {i = i} {j = j} {k = k} {p = p} {q = q} {r = r} {x = x} {y = y} z e h g = record {
-    later = omega (arith, h.later, g.later);
-    stays = λ m. ((g.stays ((h.stays m).0)).0, keeps_then a b c ((h.stays m).1) ((g.stays ((h.stays m).0)).1));
-    goes = goes_by z e h g q.failed refl;
-    fails = fails_by z e h g q.failed refl }
+  later = omega (arith, h.later, g.later);
+  stays = λ m. ((g.stays ((h.stays m).0)).0, keeps_then a b c ((h.stays m).1) ((g.stays ((h.stays m).0)).1));
+  goes = goes_by z e h g q.failed refl;
+  fails = fails_by z e h g q.failed refl;
+}
 
 pub puts_then : {a b c : Option (List ℕ)} {i j k : ℕ} {p q r : Page} {x y : List ℕ} → Puts a b i j p q x → Puts b c j k q r y → Puts a c i k p r (x ++ y)
 puts_then {x = x} {y = y} h g = puts_both (x ++ y) refl h g
@@ -41,10 +44,11 @@ puts_then {x = x} {y = y} h g = puts_both (x ++ y) refl h g
 -- after a failure any text is put, which leaves all as it was
 pub puts_none : (a : Option (List ℕ)) (i : ℕ) (p : Page) (x : List ℕ) → p.failed ≡ true → Puts a a i i p p x
 puts_none a i p x h = record {
-    later = omega arith;
-    stays = λ m. (h, keeps_itself a);
-    goes = λ m. neither p.failed h m;
-    fails = λ m n. neither p.failed n m }
+  later = omega arith;
+  stays = λ m. (h, keeps_itself a);
+  goes = λ m. neither p.failed h m;
+  fails = λ m n. neither p.failed n m;
+}
 
 sends_none : (a : Option (List ℕ)) (t : List ℕ) → Sends a a t t
 sends_none None t = tt
@@ -53,10 +57,11 @@ sends_none (Some p) t = ([], sym (append-nil p), refl)
 -- a text that only waits
 pub puts_waiting : (a : Option (List ℕ)) (i : ℕ) (p q : Page) (x : List ℕ) → waiting q ≡ waiting p ++ x → q.failed ≡ p.failed → Puts a a i i p q x
 puts_waiting a i p q x e f = record {
-    later = omega arith;
-    stays = λ m. (f ∙ m, keeps_itself a);
-    goes = λ m. rw e (sends_none a (waiting p ++ x));
-    fails = λ m n. neither p.failed (sym f ∙ n) m }
+  later = omega arith;
+  stays = λ m. (f ∙ m, keeps_itself a);
+  goes = λ m. rw e (sends_none a (waiting p ++ x));
+  fails = λ m n. neither p.failed (sym f ∙ n) m;
+}
 
 pub puts_same : {a c : Option (List ℕ)} {i k : ℕ} {p r : Page} {x y : List ℕ} → y ≡ x → Puts a c i k p r x → Puts a c i k p r y
 puts_same e h = rw e h

@@ -10,20 +10,22 @@ pub sends_then : (a b c : Option (List ℕ)) (t l y z r : List ℕ) → z ≡ t 
 sends_then None b c t l y z r e h k = tt
 sends_then (Some p) None c t l y z r e h k = absurd h
 sends_then (Some p) (Some q) None t l y z r e h k = absurd k
-sends_then (Some p) (Some q) (Some o) t l y z r e h k =
-    (h.0 ++ k.0,
-     k.1 ∙ ap (λ w. w ++ k.0) h.1 ∙ append_assoc p h.0 k.0,
-     e ∙ ap (λ w. w ++ y) h.2 ∙ append_assoc h.0 l y ∙ ap (λ w. h.0 ++ w) k.2 ∙ sym (append_assoc h.0 k.0 r))
+sends_then (Some p) (Some q) (Some o) t l y z r e h k = (
+  h.0 ++ k.0,
+  k.1 ∙ ap (λ w. w ++ k.0) h.1 ∙ append_assoc p h.0 k.0,
+  e ∙ ap (λ w. w ++ y) h.2 ∙ append_assoc h.0 l y ∙ ap (λ w. h.0 ++ w) k.2 ∙ sym (append_assoc h.0 k.0 r),
+)
 
 pub front_then : (a b c : Option (List ℕ)) (t l y z : List ℕ) → z ≡ t ++ y → Sends a b t l → AppendsFront b c (l ++ y) → AppendsFront a c z
 front_then None b c t l y z e h k = tt
 front_then (Some p) None c t l y z e h k = absurd h
 front_then (Some p) (Some q) None t l y z e h k = absurd k
-front_then (Some p) (Some q) (Some o) t l y z e h k =
-    (h.0 ++ k.0,
-     k.1,
-     e ∙ ap (λ w. w ++ y) h.2 ∙ append_assoc h.0 l y ∙ ap (λ w. h.0 ++ w) k.2 ∙ sym (append_assoc h.0 k.0 k.1),
-     k.3 ∙ ap (λ w. w ++ k.0) h.1 ∙ append_assoc p h.0 k.0)
+front_then (Some p) (Some q) (Some o) t l y z e h k = (
+  h.0 ++ k.0,
+  k.1,
+  e ∙ ap (λ w. w ++ y) h.2 ∙ append_assoc h.0 l y ∙ ap (λ w. h.0 ++ w) k.2 ∙ sym (append_assoc h.0 k.0 k.1),
+  k.3 ∙ ap (λ w. w ++ k.0) h.1 ∙ append_assoc p h.0 k.0,
+)
 
 pub front_more : (a b c : Option (List ℕ)) (t y z : List ℕ) → z ≡ t ++ y → AppendsFront a b t → Keeps b c → AppendsFront a c z
 front_more None b c t y z e h k = tt

@@ -3,3 +3,5 @@ pub mod Json
 pub mod Items
 pub mod Refused
 pub mod Texts
+pub mod Plain
+pub mod Lines

@@ -25,11 +25,11 @@ is_ok = member (codes "ok") (truth true)
 unfoldable pub edited_text : ℕ → ℕ → List ℕ → List ℕ → Option Shown → ℕ → List ℕ
 edited_text op at retired made None seen =
     line (member (codes "at") (decimal at) ∷ member (codes "made") (ids_text made) ∷ is_ok ∷ member (codes "op") (decimal op)
-        ∷ member (codes "retired") (ids_text retired) ∷ member (codes "seen") (decimal seen) ∷ [])
+    ∷ member (codes "retired") (ids_text retired) ∷ member (codes "seen") (decimal seen) ∷ [])
 edited_text op at retired made (Some shown) seen =
     line (member (codes "at") (decimal at) ∷ member (codes "cut") (array (map pair_text shown.cut)) ∷ member (codes "flow") (array (map carry_text shown.flow))
-        ∷ member (codes "made") (ids_text made) ∷ is_ok ∷ member (codes "op") (decimal op)
-        ∷ member (codes "retired") (ids_text retired) ∷ member (codes "seen") (decimal seen) ∷ member (codes "total") (decimal shown.total) ∷ [])
+    ∷ member (codes "made") (ids_text made) ∷ is_ok ∷ member (codes "op") (decimal op)
+    ∷ member (codes "retired") (ids_text retired) ∷ member (codes "seen") (decimal seen) ∷ member (codes "total") (decimal shown.total) ∷ [])
 
 unfoldable pub reply_text : Reply → List ℕ
 reply_text (reply.Root root seen) = line (is_ok ∷ member (codes "root") (id_text root) ∷ member (codes "seen") (decimal seen) ∷ [])
@@ -63,5 +63,5 @@ asked_text (asked.Edit edit) = edit_text edit
 unfoldable pub entry_text : Entry → List ℕ
 entry_text e =
     line (member (codes "at") (decimal e.at) ∷ member (codes "changed") (array (map changed_text e.changed)) ∷ member (codes "client") (decimal e.client)
-        ∷ member (codes "line") (decimal e.line) ∷ member (codes "made") (ids_text e.made) ∷ member (codes "op") (decimal e.number)
-        ∷ member (codes "request") (asked_text e.asked) ∷ member (codes "retired") (ids_text e.retired) ∷ [])
+    ∷ member (codes "line") (decimal e.line) ∷ member (codes "made") (ids_text e.made) ∷ member (codes "op") (decimal e.number)
+    ∷ member (codes "request") (asked_text e.asked) ∷ member (codes "retired") (ids_text e.retired) ∷ [])

@@ -3,20 +3,25 @@
 //!
 //! - `replies`, `refused`: the replies;
 //! - `entries`: the lines of the operation log;
+//! - `lines`, `plain`: the lines of a stream, and the one form of a request line that is read without JSON;
 //! - `items`, `lists`: ids, pairs and carries, and lists of them;
 //! - `page`: the page on which a text waits for its sink.
 #![tactic(auto)]
 
 mod entries;
 mod items;
+mod lines;
 mod lists;
 mod page;
+mod plain;
 mod refused;
 mod replies;
 #[cfg(test)]
 mod tests;
 
 pub use entries::write_entry;
+pub use lines::split_line;
 pub use lists::{Written, put_list};
 pub use page::Page;
+pub use plain::read_plain_line;
 pub use replies::write_reply;

@@ -9,7 +9,7 @@ ghost use Rattle.request_lines.specs.Texts.{edited_text, ids_text, reply_text};
 
 use crate::lists::put_list;
 use crate::page::Page;
-use crate::refused::{put_bad_line, put_refused, put_seen};
+use crate::refused::{put_bad_line, put_bare, put_refused, put_seen};
 use node_ids::NodeId;
 use op_model::{Ids, PathIds, Reply, Shown, Summaries};
 use pcg_base::{Failed, Sink};
@@ -58,7 +58,15 @@ pub fn put_ids<K: Sink>(page: &mut Page, out: &mut K, piece: &[u8], ids: &Ids)
 }
 
 /// Puts the answer to an accepted edit that shows no cut.
-fn put_edited<K: Sink>(page: &mut Page, out: &mut K, op: u32, at: u64, retired: &Ids, made: &Ids, seen: u32)
+fn put_edited<K: Sink>(
+    page: &mut Page,
+    out: &mut K,
+    op: u32,
+    at: u64,
+    retired: &Ids,
+    made: &Ids,
+    seen: u32,
+)
     ensures { Puts (K.held out.old) (K.held out.new) (K.faults out.old) (K.faults out.new) page.old page.new (edited_text op at retired.now made.now None seen) }
 {
     page.put_number(out, b"{\"at\":", at);
@@ -69,7 +77,16 @@ fn put_edited<K: Sink>(page: &mut Page, out: &mut K, op: u32, at: u64, retired: 
 }
 
 /// Puts the answer to an accepted split, with the cut and a flow that shows it least.
-fn put_split<K: Sink>(page: &mut Page, out: &mut K, op: u32, at: u64, retired: &Ids, made: &Ids, shown: &Shown, seen: u32)
+fn put_split<K: Sink>(
+    page: &mut Page,
+    out: &mut K,
+    op: u32,
+    at: u64,
+    retired: &Ids,
+    made: &Ids,
+    shown: &Shown,
+    seen: u32,
+)
     ensures { Puts (K.held out.old) (K.held out.new) (K.faults out.old) (K.faults out.new) page.old page.new (edited_text op at retired.now made.now (Some shown.now) seen) }
 {
     page.put_number(out, b"{\"at\":", at);
@@ -86,7 +103,16 @@ fn put_split<K: Sink>(page: &mut Page, out: &mut K, op: u32, at: u64, retired: &
 }
 
 /// Puts the answer to an accepted edit.
-fn put_done<K: Sink>(page: &mut Page, out: &mut K, op: u32, at: u64, retired: &Ids, made: &Ids, shown: &Option<Shown>, seen: u32)
+fn put_done<K: Sink>(
+    page: &mut Page,
+    out: &mut K,
+    op: u32,
+    at: u64,
+    retired: &Ids,
+    made: &Ids,
+    shown: &Option<Shown>,
+    seen: u32,
+)
     ensures { Puts (K.held out.old) (K.held out.new) (K.faults out.old) (K.faults out.new) page.old page.new (edited_text op at retired.now made.now shown.now seen) }
 {
     match shown {
@@ -105,11 +131,18 @@ fn put_reply<K: Sink>(page: &mut Page, out: &mut K, reply: &Reply)
         Reply::Path { nodes, seen } => put_path(page, out, nodes, *seen),
         Reply::Leaves { leaves, seen } => put_leaves(page, out, leaves, *seen),
         Reply::Changes { ops, seen } => put_changes(page, out, ops, *seen),
-        Reply::Edited { op, at, retired, made, shown, seen } => put_done(page, out, *op, *at, retired, made, shown, *seen),
+        Reply::Edited {
+            op,
+            at,
+            retired,
+            made,
+            shown,
+            seen,
+        } => put_done(page, out, *op, *at, retired, made, shown, *seen),
         Reply::Refused { refusal, seen } => put_refused(page, out, *refusal, *seen),
         Reply::BadLine { error } => put_bad_line(page, out, *error),
-        Reply::NoMemory => page.put(out, b"{\"ok\":false,\"refusal\":\"NoMemory\"}\n"),
-        Reply::NotBuilt => page.put(out, b"{\"ok\":false,\"refusal\":\"NotBuilt\"}\n"),
+        Reply::NoMemory => put_bare(page, out, b"NoMemory"),
+        Reply::NotBuilt => put_bare(page, out, b"NotBuilt"),
     }
 }
 

@@ -15,10 +15,11 @@ loop-i-preserved g c =
     let done = c.loop-i.invariant.0 in
     let item = (if i == 0 then [] else codes ",") ++ f c.index-list-i.result in
     let rest = continuing (i + 1) (map f (drop (i + 1) list)) (codes "]") in
-    let next = continuing_next f list i c.index-list-i.result (codes "]") c.loop-i-test.true c.index-list-i.is in
-    (done ++ item,
-     puts_then c.loop-i.invariant.1 c.put_item.ensures,
-     c.loop-i.invariant.2 ∙ ap (λ w. done ++ w) next ∙ sym (append_assoc done item rest))
+    let next = continuing_next f list i c.index-list-i.result (codes "]") c.loop-i-test.true c.index-list-i.is in (
+      done ++ item,
+      puts_then c.loop-i.invariant.1 c.put_item.ensures,
+      c.loop-i.invariant.2 ∙ ap (λ w. done ++ w) next ∙ sym (append_assoc done item rest),
+    )
 
 pub returns : goal.returns
 returns g c =

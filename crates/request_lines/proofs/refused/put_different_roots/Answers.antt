@@ -4,4 +4,4 @@ use Rattle.request_lines.proofs.refused.put_different_roots.Goals as goal
 
 pub returns : goal.returns
 unfolding refused_text
-returns g c = puts_then c.put_id.ensures (puts_then c.put_id-2.ensures c.put_seen.ensures)
+returns g c = puts_then c.put_id.ensures (puts_then c.put_id-2.ensures (c.put_seen.ensures))

@@ -4,4 +4,4 @@ use Rattle.request_lines.proofs.refused.put_ids_spent.Goals as goal
 
 pub returns : goal.returns
 unfolding refused_text
-returns g c = puts_then c.put_number.ensures (puts_then c.put_number-2.ensures (puts_then c.put_number-3.ensures (puts_then c.put_number-4.ensures (puts_then c.put_number-5.ensures c.put.ensures))))
+returns g c = puts_then c.put_number.ensures (puts_then c.put_number-2.ensures (puts_then c.put_number-3.ensures (puts_then c.put_number-4.ensures (puts_then c.put_number-5.ensures (c.put.ensures)))))

@@ -4,4 +4,4 @@ use Rattle.request_lines.proofs.refused.put_line_too_long.Goals as goal
 
 pub returns : goal.returns
 unfolding bad_line_text
-returns g c = puts_then c.put_number.ensures c.put.ensures
+returns g c = puts_then c.put_number.ensures (c.put.ensures)

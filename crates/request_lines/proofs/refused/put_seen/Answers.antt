@@ -2,4 +2,4 @@ use Rattle.request_lines.proofs.Putting.{puts_then}
 use Rattle.request_lines.proofs.refused.put_seen.Goals as goal
 
 pub returns : goal.returns
-returns g c = puts_then c.put_number.ensures c.put.ensures
+returns g c = puts_then c.put_number.ensures (c.put.ensures)

@@ -1,5 +1,0 @@
-use Rattle.request_lines.proofs.Putting.{puts_then}
-use Rattle.request_lines.proofs.refused.put_numbered.Goals as goal
-
-pub returns : goal.returns
-returns g c = puts_then c.put_number.ensures c.put_seen.ensures

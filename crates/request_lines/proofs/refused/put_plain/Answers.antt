@@ -1,0 +1,5 @@
+use Rattle.request_lines.proofs.Putting.{puts_then}
+use Rattle.request_lines.proofs.refused.put_plain.Goals as goal
+
+pub returns : goal.returns
+returns g c = puts_then c.put_word.ensures (c.put_seen.ensures)

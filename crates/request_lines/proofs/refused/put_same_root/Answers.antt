@@ -1,0 +1,7 @@
+use Rattle.request_lines.proofs.Putting.{puts_then}
+use Rattle.request_lines.specs.Refused.{refused_text}
+use Rattle.request_lines.proofs.refused.put_same_root.Goals as goal
+
+pub returns : goal.returns
+unfolding refused_text
+returns g c = puts_then c.put_id.ensures (c.put_seen.ensures)
