@@ -3,3 +3,4 @@ mod Entries
 mod Maps
 pub mod Appending
 pub mod Cuts
+pub mod CutLines

@@ -1,0 +1,4 @@
+mod RowLemmas
+mod PutLemmas
+mod PlaceLemmas
+mod BaseLemmas
