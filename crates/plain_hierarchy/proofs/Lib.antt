@@ -1,0 +1,7 @@
+pub mod Growing
+pub mod Places
+pub mod Ingests
+pub mod Ascents
+pub mod Counts
+pub mod Fitting
+pub mod Samples

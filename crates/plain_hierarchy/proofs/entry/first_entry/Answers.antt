@@ -1,0 +1,9 @@
+use Rattle.std.proofs.Common.{sym, ◌∙◌, ap}
+use Rattle.op_model.specs.Operations.{ascending}
+use Rattle.plain_hierarchy.proofs.Ingests.{entry_ingested}
+use Rattle.plain_hierarchy.proofs.entry.first_entry.Goals as goal
+
+pub returns : goal.returns
+returns c =
+    c.ingest.ensures ∙ entry_ingested c.args.dataset.now c.args.base.now c.args.at c.in_ok-made.made.items
+    (c.in_ok-made.ensures ∙ ap ascending (c.as_slice.ensures.value ∙ c.in_ok-all.ensures))
