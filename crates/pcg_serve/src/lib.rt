@@ -1,6 +1,6 @@
 //! The program's calls.
 #![tactic(auto)]
 
-mod lines;
+mod session;
 mod stops;
 mod summary;

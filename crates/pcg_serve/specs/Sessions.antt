@@ -1,0 +1,72 @@
+-- What a client gets to its lines, over the log of the first entry.
+use Rattle.std.specs.Prelude.{◌≡◌, ℕ, Bool, true, false, ◌++◌, List, [], ◌∷◌, map, length, count_by, is_some, option_to_list, ⊤, ⊥, Option, Some, None}
+use Rattle.std.specs.Io.KnownBytes.{Appends}
+use Rattle.op_model.specs.declared.Dataset.{Dataset}
+use Rattle.op_model.specs.declared.Base.{Base}
+use Rattle.op_model.specs.declared.Entry.{Entry}
+use Rattle.op_model.specs.declared.Reply.{Reply}
+use Rattle.op_model.specs.declared.Reply.TheVariants as reply
+use Rattle.op_model.specs.Transcript.{Line, Transcript}
+use Rattle.request_lines.specs.Lines.{lines_of}
+use Rattle.request_lines.specs.Plain.{asked_plain}
+use Rattle.request_lines.specs.Texts.{reply_text}
+use Rattle.pcg_base.specs.Told.{AppendsFront}
+use Rattle.pcg_serve.specs.declared.session.Session.{Session}
+
+-- what each line of a request stream asks
+abbrev pub asked_of : List ℕ → List Line
+asked_of stream = map asked_plain (lines_of stream)
+
+-- a reply that a client may get to a line, where the log has one entry
+abbrev pub Answers : Dataset → Base → List Entry → Line → Reply → Type 0
+Answers d b log line r = Transcript d b log 1 1 1 [] (line ∷ []) (r ∷ [])
+
+-- replies that a client may get to the first of its lines, as many as there are replies
+abbrev pub Serves : Dataset → Base → List Entry → List Line → List Reply → Type 0
+Serves d b log lines [] = ⊤
+Serves d b log [] (r ∷ rs) = ⊥
+Serves d b log (line ∷ lines) (r ∷ rs) = Answers d b log line r × Serves d b log lines rs
+
+-- the texts of replies, one behind the other
+unfoldable pub texts : List Reply → List ℕ
+texts [] = []
+texts (r ∷ rs) = reply_text r ++ texts rs
+
+-- whether a reply says no: its text has "ok":false
+abbrev pub refuses : Reply → Bool
+refuses (reply.Root root seen) = false
+refuses (reply.Path nodes seen) = false
+refuses (reply.Leaves leaves seen) = false
+refuses (reply.Changes ops seen) = false
+refuses (reply.Edited op at retired made shown seen) = false
+refuses (reply.Refused refusal seen) = true
+refuses (reply.BadLine error) = true
+refuses reply.NoMemory = true
+refuses reply.NotBuilt = true
+
+-- known bytes grew by the texts of the replies, and by a front of the text of the one whose writing failed
+abbrev pub Wrote : Option (List ℕ) → Option (List ℕ) → List Reply → Option Reply → Type 0
+Wrote held held' written None = Appends held held' (texts written)
+Wrote held held' written (Some r) = (between : Option (List ℕ)) × Appends held between (texts written) × AppendsFront between held' (reply_text r)
+
+-- What a session did: the replies that it wrote, and the one whose writing failed, if one did. Without one every line has its reply.
+pub record Did (d : Dataset) (b : Base) (log : List Entry) (lines : List Line) (held held' : Option (List ℕ)) (s : Session) : Type 0 where
+  pub written : List Reply
+  pub last : Option Reply
+  pub serves : Serves d b log lines (written ++ option_to_list last)
+  pub wrote : Wrote held held' written last
+  pub failed : s.failed ≡ is_some last
+  pub whole : last ≡ None → length written ≡ length lines
+  pub lines : s.lines ≡ length written
+  pub refused : s.refused ≡ count_by refuses written
+
+-- What a session did so far: these bytes of the stream are left, and each line before them has its reply.
+pub record SoFar (d : Dataset) (b : Base) (log : List Entry) (stream rest : List ℕ) (held held' : Option (List ℕ)) (lines refused : ℕ) : Type 0 where
+  pub done : List Line
+  pub written : List Reply
+  pub split : asked_of stream ≡ done ++ asked_of rest
+  pub serves : Serves d b log done written
+  pub each : length written ≡ length done
+  pub wrote : Appends held held' (texts written)
+  pub lines : lines ≡ length written
+  pub refused : refused ≡ count_by refuses written
