@@ -1,6 +1,6 @@
 -- A line while its end is looked for.
-use Rattle.std.proofs.Common.{◌≡◌, ◌≢◌, ℕ, zero, suc, ◌+◌, ◌<◌, ◌==◌, true, false, List, [], ◌∷◌, ◌++◌, length, take, drop, get_or, ap, sym, ◌∙◌, refl, arith, if◌then◌else◌}
-use Rattle.std.proofs.lemmas.List.{drop_more, take_more}
+use Rattle.std.proofs.Common.{◌≡◌, ◌≢◌, ℕ, zero, suc, ◌+◌, ◌<◌, ◌≤◌, ◌==◌, true, false, List, [], ◌∷◌, ◌++◌, length, take, drop, get_or, ap, sym, ◌∙◌, refl, arith, if◌then◌else◌}
+use Rattle.std.proofs.lemmas.List.{drop_all, drop_more, take_all, take_more}
 use Rattle.request_lines.specs.Lines.{lines_of, starting}
 
 -- bytes at the front of the first line
@@ -25,20 +25,28 @@ pub front_one : (bytes : List ℕ) (at : ℕ) (d : ℕ) → at < length bytes �
 front_one bytes at d h = take_more bytes at d h
 
 -- the state of the search after a byte that is no line feed
-pub search_next : (bytes : List ℕ) (at d : ℕ) → at < length bytes → (get_or bytes at d == 10) ≡ false
+pub search_next : (bytes : List ℕ) (at d : ℕ) → at < length bytes → (get_or bytes at d ≡ 10 → ⊥)
     → prepending (take at bytes) (lines_of (drop at bytes)) ≡ prepending (take (at + 1) bytes) (lines_of (drop (at + 1) bytes))
 unfolding lines_of
 search_next bytes at d h e =
-    rw (front_one bytes at d h) (rw (prepending_one (take at bytes) (get_or bytes at d) (lines_of (drop (at + 1) bytes)))
-        (rw (drop_more bytes at d h) (rw e refl)))
+    let b : (get_or bytes at d == 10) ≡ false = grind (arith, e) in
+    rw (front_one bytes at d h)
+    (rw (prepending_one (take at bytes) (get_or bytes at d) (lines_of (drop (at + 1) bytes))) (rw (drop_more bytes at d h) (rw b refl)))
 
-pub search_found : (bytes : List ℕ) (at d : ℕ) → at < length bytes → (get_or bytes at d == 10) ≡ true
+pub search_found : (bytes : List ℕ) (at d : ℕ) → at < length bytes → get_or bytes at d ≡ 10
     → prepending (take at bytes) (lines_of (drop at bytes)) ≡ take at bytes ∷ lines_of (drop (at + 1) bytes)
 unfolding lines_of
 search_found bytes at d h e =
-    rw (drop_more bytes at d h) (rw e (prepending_line (take at bytes) (lines_of (drop (at + 1) bytes))))
+    let b : (get_or bytes at d == 10) ≡ true = grind (arith, e) in
+    rw (drop_more bytes at d h) (rw b (prepending_line (take at bytes) (lines_of (drop (at + 1) bytes))))
 
-pub search_last : (bytes : List ℕ) → bytes ≢ [] → prepending bytes (lines_of []) ≡ bytes ∷ lines_of []
+last_of : (bytes : List ℕ) → (length bytes == 0) ≡ false → prepending bytes (lines_of []) ≡ bytes ∷ lines_of []
 unfolding lines_of
-search_last [] h = absurd (h refl)
-search_last (x ∷ xs) h = prepending_last x xs
+last_of [] h = absurd (grind (arith, h))
+last_of (x ∷ xs) h = prepending_last x xs
+
+pub search_last : (bytes : List ℕ) (at : ℕ) → length bytes ≤ at → (length bytes == 0) ≡ false
+    → prepending (take at bytes) (lines_of (drop at bytes)) ≡ take (length bytes) bytes ∷ lines_of (drop (length bytes) bytes)
+search_last bytes at h e =
+    let all : length bytes ≤ length bytes = omega arith in
+    rw (take_all at bytes h) (rw (drop_all at bytes h) (rw (take_all (length bytes) bytes all) (rw (drop_all (length bytes) bytes all) (last_of bytes e))))

@@ -15,8 +15,10 @@ pub fn split_line(bytes: &[u8]) -> Option<(&[u8], &[u8])>
     }
     for at in 0..bytes.len() {
         if bytes[at] == b'\n' {
-            return Some((&bytes[..at], &bytes[at + 1..]));
+            let (line, _) = bytes.split_at(at);
+            let (_, rest) = bytes.split_at(at + 1);
+            return Some((line, rest));
         }
     }
-    Some((bytes, &bytes[bytes.len()..]))
+    Some(bytes.split_at(bytes.len()))
 }

@@ -1,3 +1,5 @@
+ghost use Rattle.std.specs.Prelude.{◌<◌};
+
 use super::*;
 use node_ids::NodeId;
 use op_model::*;
@@ -259,4 +261,23 @@ fn a_failed_write_leaves_a_front(rt: HostRuntime) -> Result<(), AllocError> {
     );
     assert_eq!(rt; sink.faults(), 1);
     Ok(())
+}
+
+fn asks_for_five(line: &[u8]) -> bool {
+    match read_plain_line(line) {
+        Some(Read::Root { sv, at }) => sv == NodeId(5) && at.is_none(),
+        _ => false,
+    }
+}
+
+#[test]
+fn plain_lines(rt: HostRuntime) {
+    let mut rest: &[u8] =
+        b"{\"do\":\"root\",\"sv\":\"5\"}\n{\"do\":\"root\",\"sv\":\"05\"}\n\n{\"do\":\"root\", \"sv\":\"5\"}";
+    for read in [true, false, false, false] {
+        let (line, more) = split_line(rest).unwrap_or((b"", b""));
+        assert_eq!(rt; asks_for_five(line), read);
+        rest = more;
+    }
+    assert!(rt; split_line(rest).is_none());
 }
