@@ -1,10 +1,9 @@
 -- What two tables spell is a base.
-use Rattle.std.proofs.Common.{◌≡◌, ℕ, ◌^◌, ◌<◌, ◌≤◌, Bool, true, false, cond, ◌&&◌, eqb, ltb, leb, List, [], ◌∷◌, length, Option, Some, None, option_map, codes, arith, refl, sym, ◌∙◌, ap, subst}
+use Rattle.std.proofs.Common.{◌≡◌, ℕ, ◌^◌, ◌≤◌, Bool, true, false, cond, ◌&&◌, eqb, ltb, leb, List, [], ◌∷◌, length, Option, Some, None, option_map, codes, arith, refl, ◌∙◌, ap, subst}
 use Rattle.std.specs.Option.{option_and_then}
 use Rattle.std.specs.List.{AllByRecursion, list_all}
 use Rattle.std.proofs.lemmas.Bool.{eqb-true, ltb-true, leb-true, and_parts}
 use Rattle.op_model.specs.declared.Dataset.{Dataset}
-use Rattle.op_model.specs.declared.Base.{Base}
 use Rattle.op_model.specs.declared.Edge.{Edge}
 use Rattle.op_model.specs.declared.Weight.{Weight}
 use Rattle.op_model.specs.declared.Weight.TheVariants.{Affinity, Glue}
@@ -16,7 +15,7 @@ use Rattle.node_ids.specs.Ids.{parts_of}
 use Rattle.node_ids.specs.Digits.{number_of}
 use Rattle.table_ingest.specs.Tables.{only_if, table}
 use Rattle.table_ingest.specs.Rows.{is_supervoxel, is_edge, is_weight, ids_differ, pairs_differ}
-use Rattle.table_ingest.specs.Plain.{are_supervoxels, are_edges, supervoxels_of, edges_of, base_of, row_of}
+use Rattle.table_ingest.specs.Plain.{are_supervoxels, are_edges, supervoxels_of, edges_of, row_of}
 use Rattle.table_ingest.proofs.PutLemmas.{ascending_all, ascending_length, ascending_ascends, puts_all, puts_differ, puts_length, apart_none}
 
 bound : {A B : Type 0} (f : A → Option B) (o : Option A) (y : B) → option_and_then f o ≡ Some y → (x : A) × (o ≡ Some x) × (f x ≡ Some y)
@@ -102,8 +101,7 @@ kept_valid known rows e =
     let a = and_parts (leb (length rows) 1000 && pairs_differ rows) (list_all (is_edge known) rows) e in
     let b = and_parts (leb (length rows) 1000) (pairs_differ rows) a.0 in
     let few = leb-true _ _ b.0 in
-    let long = puts_length rows [] in
-    (
+    let long = puts_length rows [] in (
       puts_all (IsEdge known) rows [] b.1 (apart_none rows) (all_from_test (is_edge known) (IsEdge known) (one_edge known) rows a.1) tt,
       puts_differ rows [] b.1 (apart_none rows) tt,
       omega arith,

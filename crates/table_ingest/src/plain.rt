@@ -78,3 +78,198 @@ fn edges_of(alloc: Global, text: &[u8], supervoxels: &Ids) -> Result<EdgeList, P
         Err(_) => Err(PlainError::NoMemory),
     }
 }
+
+#[cfg(test)]
+mod tests {
+    use super::*;
+    use chunk_geometry::Grid;
+    use node_ids::{Layout, NodeId};
+    use op_model::{Edge, Pair, Weight};
+
+    const SUPERVOXELS: &str =
+        "supervoxel\n72057594037927937\n72057594037927938\n72339069014638593\n72339069014638594\n";
+
+    const EDGES: &str =
+        "a,b,affinity,active\n72057594037927937,72057594037927938,10,1\n72057594037927938,72339069014638593,7,1\n72339069014638593,72339069014638594,5,0\n";
+
+    fn dataset() -> Option<Dataset> {
+        let Ok(layout) = Layout::new(8) else {
+            return None;
+        };
+        let Ok(grid) = Grid::new(2, 1, 1) else {
+            return None;
+        };
+        Some(Dataset {
+            layout,
+            grid,
+            merge_affinity: 5,
+            capacity: 1048576,
+        })
+    }
+
+    fn edge(a: u64, b: u64, weight: Weight, active: bool) -> Edge {
+        Edge {
+            pair: Pair {
+                a: NodeId(a),
+                b: NodeId(b),
+            },
+            weight,
+            active,
+        }
+    }
+
+    #[test]
+    fn rows_in_any_order(rt: HostRuntime) {
+        let Some(dataset) = dataset() else {
+            panic!(rt; "no dataset");
+        };
+        let ids = [
+            NodeId(72057594037927937),
+            NodeId(72057594037927938),
+            NodeId(72339069014638593),
+            NodeId(72339069014638594),
+        ];
+        let list = [
+            edge(
+                72057594037927937,
+                72057594037927938,
+                Weight::Affinity(10),
+                true,
+            ),
+            edge(
+                72057594037927938,
+                72339069014638593,
+                Weight::Affinity(7),
+                true,
+            ),
+            edge(
+                72339069014638593,
+                72339069014638594,
+                Weight::Affinity(5),
+                false,
+            ),
+        ];
+        for (supervoxels, edges) in [
+            (SUPERVOXELS, EDGES),
+            (
+                "supervoxel\n72339069014638594\n72057594037927938\n72057594037927937\n72339069014638593\n",
+                "a,b,affinity,active\n72339069014638594,72339069014638593,5,0\n72057594037927937,72057594037927938,10,1\n72339069014638593,72057594037927938,7,1\n",
+            ),
+        ] {
+            let Ok(base) = read_plain_base(
+                rt.alloc(),
+                supervoxels.as_bytes(),
+                edges.as_bytes(),
+                &dataset,
+            ) else {
+                panic!(rt; "no base of {edges}");
+            };
+            assert_eq!(rt; base.supervoxels.list.as_slice(), ids.as_slice());
+            assert_eq!(rt; base.edges.list.as_slice(), list.as_slice());
+        }
+    }
+
+    #[test]
+    fn glue_and_no_rows(rt: HostRuntime) {
+        let Some(dataset) = dataset() else {
+            panic!(rt; "no dataset");
+        };
+        let edges =
+            "a,b,affinity,active\n72057594037927938,72057594037927937,glue,1\n72057594037927937,72339069014638593,4294967295,1\n";
+        let Ok(base) = read_plain_base(
+            rt.alloc(),
+            SUPERVOXELS.as_bytes(),
+            edges.as_bytes(),
+            &dataset,
+        ) else {
+            panic!(rt; "no base of {edges}");
+        };
+        let list = [
+            edge(72057594037927937, 72057594037927938, Weight::Glue, true),
+            edge(
+                72057594037927937,
+                72339069014638593,
+                Weight::Affinity(4294967295),
+                true,
+            ),
+        ];
+        assert_eq!(rt; base.edges.list.as_slice(), list.as_slice());
+        let Ok(base) = read_plain_base(
+            rt.alloc(),
+            b"supervoxel\n",
+            b"a,b,affinity,active\n",
+            &dataset,
+        ) else {
+            panic!(rt; "no base without rows");
+        };
+        assert_eq!(rt; base.supervoxels.list.len(), 0);
+        assert_eq!(rt; base.edges.list.len(), 0);
+    }
+
+    #[test]
+    fn no_supervoxel_tables(rt: HostRuntime) {
+        let Some(dataset) = dataset() else {
+            panic!(rt; "no dataset");
+        };
+        for text in [
+            "",
+            "supervoxel",
+            "supervoxels\n",
+            "supervoxel\r\n72057594037927937\r\n",
+            "supervoxel\n72057594037927937\r\n",
+            "supervoxel\n\"72057594037927937\"\n",
+            "supervoxel\n72057594037927937",
+            "supervoxel\n\n72057594037927937\n",
+            "supervoxel\n72057594037927937\n\n",
+            "72057594037927937\n",
+            "supervoxel\n072057594037927937\n",
+            "supervoxel\n144115188075855873\n",
+            "supervoxel\n72620543991349249\n",
+            "supervoxel\n72058693549555713\n",
+            "supervoxel\n72057594037927936\n",
+            "supervoxel\n72057594037927937\n72057594037927938\n72057594037927937\n",
+        ] {
+            let answer = read_plain_base(
+                rt.alloc(),
+                text.as_bytes(),
+                b"a,b,affinity,active\n",
+                &dataset,
+            );
+            assert!(rt; matches!(&answer, Err(PlainError::NotBuilt)), "at {text}");
+        }
+    }
+
+    #[test]
+    fn no_edge_tables(rt: HostRuntime) {
+        let Some(dataset) = dataset() else {
+            panic!(rt; "no dataset");
+        };
+        for text in [
+            "",
+            "a,b,affinity\n",
+            "a,b,affinity,active\r\n",
+            "a,b,affinity,active\n72057594037927937,72057594037927938,10,1",
+            "a,b,affinity,active\n72057594037927937,72057594037927938,10,1\n\n",
+            "a,b,affinity,active\n72057594037927937,72057594037927938,\"10\",1\n",
+            "a,b,affinity,active\n72057594037927937,72057594037927939,10,1\n",
+            "a,b,affinity,active\n72057594037927937,72057594037927937,10,1\n",
+            "a,b,affinity,active\n72057594037927937,72057594037927938,10,1\n72057594037927937,72057594037927938,7,1\n",
+            "a,b,affinity,active\n72057594037927937,72057594037927938,10,1\n72057594037927938,72057594037927937,10,1\n",
+            "a,b,affinity,active\n72057594037927937,72057594037927938,0,1\n",
+            "a,b,affinity,active\n72057594037927937,72057594037927938,010,1\n",
+            "a,b,affinity,active\n72057594037927937,72057594037927938,4294967296,1\n",
+            "a,b,affinity,active\n72057594037927937,72057594037927938,10,2\n",
+            "a,b,affinity,active\n72057594037927937,72057594037927938,glue,0\n",
+            "a,b,affinity,active\n72057594037927937,72057594037927938,10,1,1\n",
+            "a,b,affinity,active\n72057594037927937,72057594037927938,10\n",
+        ] {
+            let answer = read_plain_base(
+                rt.alloc(),
+                SUPERVOXELS.as_bytes(),
+                text.as_bytes(),
+                &dataset,
+            );
+            assert!(rt; matches!(&answer, Err(PlainError::NotBuilt)), "at {text}");
+        }
+    }
+}

@@ -1,4 +1,4 @@
-use Rattle.std.proofs.Common.{◌≡◌, rules, codes, sym, subst, ℕ, List, Option}
+use Rattle.std.proofs.Common.{rules, codes, sym, subst}
 use Rattle.table_ingest.specs.Plain.{row_of}
 use Rattle.table_ingest.specs.Tables.{behind_header}
 use Rattle.table_ingest.specs.Plain.{Gives}

@@ -1,4 +1,4 @@
-use Rattle.std.proofs.Common.{◌≡◌, rules}
+use Rattle.std.proofs.Common.{rules}
 use Rattle.table_ingest.specs.Plain.{row_of}
 use Rattle.table_ingest.proofs.RowLemmas.{ends_open, ends_bad, ends_all, goes_on}
 use Rattle.table_ingest.proofs.lines.read_edges.Goals as goal

@@ -1,4 +1,4 @@
-use Rattle.std.proofs.Common.{◌≡◌, rules}
+use Rattle.std.proofs.Common.{rules}
 use Rattle.table_ingest.proofs.BaseLemmas.{is_base, is_small}
 use Rattle.table_ingest.proofs.plain.read_plain_base.Goals as goal
 
