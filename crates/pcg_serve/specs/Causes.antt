@@ -1,12 +1,10 @@
 -- Why a call answers what it answers.
-use Rattle.std.specs.Prelude.{◌≡◌, ◌<◌, ◌⊎◌, ⊤, ⊥, ℕ, List, length, Bool, true, Option, Some, None, not, is_none, ◌==◌, ◌&&◌}
+use Rattle.std.specs.Prelude.{◌≡◌, ◌<◌, ◌⊎◌, ⊤, ℕ, List, [], ◌∷◌, length, Bool, false, Option, Some, None, is_none, ◌==◌, ◌&&◌}
 use Rattle.std.specs.FinMap.{get}
 use Rattle.pcg_base.specs.Causes.{Rose}
-use Rattle.pcg_base.specs.Told.{Files, Counts}
+use Rattle.pcg_base.specs.Told.{Files}
 use Rattle.pcg_words.specs.declared.job.RehearseJob.{RehearseJob}
-use Rattle.pcg_words.specs.Job.{request_file, answer_file}
-use Rattle.pcg_serve.specs.declared.stops.FileName.{FileName}
-use Rattle.pcg_serve.specs.declared.stops.FileName.TheVariants as files
+use Rattle.pcg_words.specs.Job.{request_file}
 use Rattle.pcg_serve.specs.declared.stops.Stop.{Stop}
 use Rattle.pcg_serve.specs.declared.stops.Stop.TheVariants as stops
 use Rattle.pcg_serve.specs.Jobs.{IsNoBase, TablesAre, limit}
@@ -20,36 +18,32 @@ abbrev pub HasNoBase : Option Files → RehearseJob → Type 0
 HasNoBase None job = ⊤
 HasNoBase (Some m) job = (supervoxels edges : List ℕ) × TablesAre m job supervoxels edges × IsNoBase job supervoxels edges
 
--- where the place tells its bytes, the file of this name has more of them than a file may have
-abbrev pub HasLong : Option Files → List ℕ → Type 0
-HasLong None name = ⊤
-HasLong (Some m) name = (bytes : List ℕ) × (get m name ≡ Some bytes) × (limit < length bytes)
+-- where the place tells its bytes, a client's requests have more of them than a file may have
+abbrev pub LongAt : Option Files → List ℕ → Type 0
+LongAt None stem = ⊤
+LongAt (Some m) stem = (bytes : List ℕ) × (get m (request_file stem) ≡ Some bytes) × (limit < length bytes)
 
--- the counts of the place, before and after a call
-pub record Faults : Type 0 where
-  pub reads : ℕ
-  pub writes : ℕ
-  pub beside : List ℕ → Counts
+-- the only client's requests have
+abbrev pub HasLong : Option Files → List (List ℕ) → Type 0
+HasLong m [] = ⊥
+HasLong m (stem ∷ stems) = LongAt m stem
 
--- a count of reading beside a name rose
-abbrev pub ReadRose : Faults → Faults → List ℕ → Type 0
-ReadRose before after name =
-    Rose before.reads after.reads
-    × (Rose (before.beside name).source_openings (after.beside name).source_openings ⊎ Rose (before.beside name).source_faults (after.beside name).source_faults)
+-- the input is of a form that isn't read yet: several clients or a schedule, tables that spell no base, or too many requests
+abbrev pub IsUnbuilt : Option Files → RehearseJob → Type 0
+IsUnbuilt m job = (has_one_client job ≡ false) ⊎ HasNoBase m job ⊎ HasLong m job.stems
 
--- a count of failed openings for writing beside a name rose
-abbrev pub WriteRose : Faults → Faults → List ℕ → Type 0
-WriteRose before after name =
-    Rose before.writes after.writes × Rose (before.beside name).sink_openings (after.beside name).sink_openings
+-- why a call stopped before its sessions, where these are the counts of reading and of writing before and after it
+abbrev pub StopCause : Option Files → RehearseJob → ℕ → ℕ → ℕ → ℕ → Stop → Type 0
+StopCause m job reads reads' writes writes' stops.BadWords = ⊥
+StopCause m job reads reads' writes writes' (stops.ReadFault client file) = Rose reads reads'
+StopCause m job reads reads' writes writes' (stops.WriteFault client file) = Rose writes writes'
+StopCause m job reads reads' writes writes' stops.NotBuilt = IsUnbuilt m job
+StopCause m job reads reads' writes writes' stops.NoMemory = ⊤
 
--- why a call stopped before its sessions
-abbrev pub StopCause : Option Files → RehearseJob → Faults → Faults → List ℕ → Stop → Type 0
-StopCause m job before after stem stops.BadWords = ⊥
-StopCause m job before after stem (stops.ReadFault client files.Supervoxels) = (client ≡ 0) × ReadRose before after job.supervoxels
-StopCause m job before after stem (stops.ReadFault client files.Edges) = (client ≡ 0) × ReadRose before after job.edges
-StopCause m job before after stem (stops.ReadFault client files.Requests) = (client ≡ 1) × ReadRose before after (request_file stem)
-StopCause m job before after stem (stops.ReadFault client files.Answers) = ⊥
-StopCause m job before after stem (stops.WriteFault client files.Answers) = (client ≡ 1) × WriteRose before after (answer_file stem)
-StopCause m job before after stem (stops.WriteFault client file) = ⊥
-StopCause m job before after stem stops.NotBuilt = (has_one_client job ≡ Rattle.std.specs.Prelude.false) ⊎ HasNoBase m job ⊎ HasLong m (request_file stem)
-StopCause m job before after stem stops.NoMemory = ⊤
+-- the same of a client with this stem
+abbrev pub StopsAt : Option Files → List ℕ → ℕ → ℕ → ℕ → ℕ → Stop → Type 0
+StopsAt m stem reads reads' writes writes' stops.BadWords = ⊥
+StopsAt m stem reads reads' writes writes' (stops.ReadFault client file) = Rose reads reads'
+StopsAt m stem reads reads' writes writes' (stops.WriteFault client file) = Rose writes writes'
+StopsAt m stem reads reads' writes writes' stops.NotBuilt = LongAt m stem
+StopsAt m stem reads reads' writes writes' stops.NoMemory = ⊤

@@ -1,6 +1,9 @@
 //! The program's calls.
 #![tactic(auto)]
 
+mod client;
+mod ingest;
 mod session;
 mod stops;
+mod streams;
 mod summary;

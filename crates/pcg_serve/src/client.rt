@@ -1,0 +1,134 @@
+//! The only client: its requests are opened, read, answered and kept back.
+
+ghost use Rattle.std.specs.Prelude.{◌≡◌, ◌≢◌, ◌≤◌, ◌⊎◌, ℕ, List, Some, None, IfOk, IfErr, IsErrOf, true, IsTrue};
+ghost use Rattle.std.specs.FinMap.{get};
+ghost use Rattle.pcg_base.specs.Causes.{Rose};
+ghost use Rattle.pcg_base.specs.Told.{IsLonger, KeepsFiles};
+ghost use Rattle.pcg_words.specs.Job.{answer_file, request_file};
+ghost use Rattle.pcg_serve.specs.Causes.{LongAt, StopsAt};
+ghost use Rattle.pcg_serve.specs.Ingests.{IsIngest};
+
+use crate::ingest::Ingest;
+use crate::session::{Session, serve};
+use crate::stops::{FileName, Stop};
+use crate::streams::{StreamEnd, ended_part, read_stream};
+use crate::summary::Fault;
+use pcg_base::{NoMemory, Place, PlaceError, Sink, Source};
+use pcg_words::{Name, answer_file, request_file};
+use std::alloc::Global;
+
+/// The most bytes that a file may have.
+pub const LIMIT: u64 = 65536;
+
+/// How a session ended.
+#[derive(Clone, Copy, Debug, PartialEq, Eq)]
+pub struct Ended {
+    /// What it did.
+    pub session: Session,
+    /// The fault that it ended in, if it did in one. A reply whose writing failed comes first.
+    pub fault: Option<Fault>,
+}
+
+/// How a session ended whose stream may have broken off.
+fn end_of(session: Session, broken: bool) -> Ended
+    ensures session { result.session ≡ session }
+    ensures read { result.fault ≡ Some Fault.ReadFault → IsTrue broken }
+    ensures write { result.fault ≡ Some Fault.WriteFault → IsTrue session.failed }
+{
+    let fault = if session.failed {
+        Some(Fault::WriteFault)
+    } else if broken {
+        Some(Fault::ReadFault)
+    } else {
+        None
+    };
+    Ended { session, fault }
+}
+
+/// Reads the requests and answers them.
+fn serve_stream<S: Source, K: Sink>(
+    alloc: Global,
+    ingest: &Ingest,
+    source: &mut S,
+    sink: &mut K,
+) -> Result<Ended, Stop>
+    requires { IsIngest ingest.now }
+    ensures read { IfOk result (λ e. e.fault ≡ Some Fault.ReadFault → Rose (S.faults source.old) (S.faults source.new)) }
+    ensures write { IfOk result (λ e. e.fault ≡ Some Fault.WriteFault → Rose (K.faults sink.old) (K.faults sink.new)) }
+    ensures kinds { IfErr result (λ stop. (stop ≡ Stop.NotBuilt) ⊎ (stop ≡ Stop.NoMemory)) }
+    ensures long { IsErrOf result Stop.NotBuilt → IsLonger (S.left source.old) LIMIT }
+    ensures reads { S.faults source.old ≤ S.faults source.new }
+    ensures writes { K.faults sink.old ≤ K.faults sink.new }
+{
+    let Ok(stream) = read_stream(alloc, source, LIMIT) else {
+        return Err(Stop::NoMemory);
+    };
+    match stream.end {
+        StreamEnd::TooLong => Err(Stop::NotBuilt),
+        StreamEnd::Broken => {
+            let session = serve(alloc, ingest, ended_part(stream.bytes.as_slice()), sink);
+            Ok(end_of(session, true))
+        }
+        StreamEnd::Whole => {
+            let session = serve(alloc, ingest, stream.bytes.as_slice(), sink);
+            Ok(end_of(session, false))
+        }
+    }
+}
+
+/// Opens the client's two files, answers its requests, and keeps both files back.
+pub fn run_client<P: Place>(
+    alloc: Global,
+    ingest: &Ingest,
+    stem: &Name,
+    place: &mut P,
+) -> Result<Ended, Stop>
+    requires { IsIngest ingest.now }
+    ensures stop { IfErr result (λ stop. StopsAt (P.files place.old) stem.now (P.read_faults place.old) (P.read_faults place.new) (P.write_faults place.old) (P.write_faults place.new) stop) }
+    ensures read { IfOk result (λ e. e.fault ≡ Some Fault.ReadFault → Rose (P.read_faults place.old) (P.read_faults place.new)) }
+    ensures write { IfOk result (λ e. e.fault ≡ Some Fault.WriteFault → Rose (P.write_faults place.old) (P.write_faults place.new)) }
+    ensures reads { P.read_faults place.old ≤ P.read_faults place.new }
+    ensures writes { P.write_faults place.old ≤ P.write_faults place.new }
+{
+    let Ok(requests) = request_file(alloc, stem) else {
+        return Err(Stop::NoMemory);
+    };
+    let Ok(answers) = answer_file(alloc, stem) else {
+        return Err(Stop::NoMemory);
+    };
+    let mut source = match place.source_of(requests.text.as_str()) {
+        Ok(source) => source,
+        Err(PlaceError::Failed) => {
+            return Err(Stop::ReadFault {
+                client: 1,
+                file: FileName::Requests,
+            });
+        }
+        Err(PlaceError::NoMemory) => return Err(Stop::NoMemory),
+    };
+    let mut sink = match place.sink_of(answers.text.as_str()) {
+        Ok(sink) => sink,
+        Err(e) => {
+            place.keep_in(requests.text.as_str(), source);
+            return Err(no_sink(e));
+        }
+    };
+    let found = serve_stream(alloc, ingest, &mut source, &mut sink);
+    place.keep_in(requests.text.as_str(), source);
+    place.keep_out(answers.text.as_str(), sink);
+    found
+}
+
+/// Why a call stops whose answers could not be opened.
+fn no_sink(error: PlaceError) -> Stop
+    ensures failed { result ≡ Stop.WriteFault 1 FileName.Answers → error ≡ PlaceError.Failed }
+    ensures kinds { (result ≡ Stop.WriteFault 1 FileName.Answers) ⊎ (result ≡ Stop.NoMemory) }
+{
+    match error {
+        PlaceError::Failed => Stop::WriteFault {
+            client: 1,
+            file: FileName::Answers,
+        },
+        PlaceError::NoMemory => Stop::NoMemory,
+    }
+}
