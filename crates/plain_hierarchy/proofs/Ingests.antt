@@ -1,7 +1,7 @@
 -- The nodes of the first entry, over the base alone.
-use Rattle.std.proofs.Common.{◌≡◌, ℕ, ◌+◌, Bool, true, false, cond, ◌&&◌, ◌||◌, eqb, leb, List, [], ◌∷◌, length, map, refl, sym, ◌∙◌, ap, subst, eq-eqb}
-use Rattle.std.specs.List.{filter, list_any, AllByRecursion}
-use Rattle.std.proofs.lemmas.Bool.{cond-true, cond-false, or_parts, and_parts, and_from, eqb-true, false_from_ne_true, false≢true}
+use Rattle.std.proofs.Common.{◌≡◌, ℕ, ◌+◌, Bool, true, false, cond, ◌&&◌, ◌||◌, eqb, List, [], ◌∷◌, map, refl, sym, ◌∙◌, ap, eq-eqb}
+use Rattle.std.specs.List.{list_any, AllByRecursion}
+use Rattle.std.proofs.lemmas.Bool.{or_parts, and_parts, and_from, eqb-true, false_from_ne_true, false≢true}
 use mathlib.Core.Path.{ap₂}
 use Rattle.std.proofs.Math.Nat.{zero-add}
 use Rattle.op_model.specs.declared.Dataset.{Dataset}
@@ -10,7 +10,7 @@ use Rattle.op_model.specs.declared.Asked.TheVariants as asked
 use Rattle.op_model.specs.declared.Pair.{Pair}
 use Rattle.op_model.specs.declared.Edge.{Edge}
 use Rattle.op_model.specs.declared.Entry.{Entry}
-use Rattle.graph_model.specs.Lists.{has, head_or}
+use Rattle.graph_model.specs.Lists.{has}
 use Rattle.graph_model.specs.Components.{component_of}
 use Rattle.op_model.specs.Edges.{same_pair, pair_before, put_edge, put_edges, put_changed, edges_after, joins, linked}
 use Rattle.op_model.specs.Chunks.{chunk, members, top}

@@ -1,9 +1,8 @@
 -- A chunk's parts fit its id, and the top layer has one chunk.
-use Rattle.std.proofs.Common.{◌≡◌, ℕ, zero, suc, ◌+◌, ◌-◌, ◌*◌, ◌/◌, ◌%◌, ◌^◌, max, ◌<◌, ◌≤◌, Bool, true, ◌&&◌, eqb, ltb, leb, List, refl, sym, ◌∙◌, ap, arith, Ok, Result, lt-ltb, eq-eqb}
-use Rattle.std.specs.List.{filter, AllByRecursion}
-use Rattle.std.proofs.Math.Nat.{mod-lt, div-lt_iff_lt-mul, div-eq_of_lt, lt-div-mul-add}
+use Rattle.std.proofs.Common.{◌≡◌, ℕ, ◌+◌, ◌-◌, ◌*◌, ◌/◌, ◌^◌, max, ◌<◌, ◌≤◌, true, ◌&&◌, eqb, ltb, leb, refl, sym, ◌∙◌, ap, arith, Ok, Result, lt-ltb, eq-eqb}
+use Rattle.std.proofs.Math.Nat.{div-lt_iff_lt-mul, lt-div-mul-add}
 use Rattle.std.proofs.Math.Pow.{pow_mono}
-use Rattle.std.proofs.lemmas.Bool.{cond_both, ltb-true, and_parts, and_from, le-leb}
+use Rattle.std.proofs.lemmas.Bool.{cond_both, and_from, le-leb}
 use Rattle.std.proofs.lemmas.Nat.{pow_pos, pow-add}
 use Rattle.chunk_geometry.specs.declared.Cell.{Cell}
 use Rattle.node_ids.specs.declared.PartTooLarge.{PartTooLarge}
@@ -11,7 +10,7 @@ use Rattle.chunk_geometry.specs.Chunks.{chunk_at, top_layer, widest}
 use Rattle.chunk_geometry.specs.Grids.{in_grid}
 use Rattle.chunk_geometry.proofs.LayerLemmas.{top_high, top_chunk}
 use Rattle.node_ids.specs.declared.Parts.{Parts}
-use Rattle.node_ids.specs.Ids.{IsLayout, LayoutForm, width, greatest, id_of, parts_of, parts_over, PartsFit, segments_over}
+use Rattle.node_ids.specs.Ids.{LayoutForm, width, greatest, id_of, parts_of, parts_over, PartsFit}
 use Rattle.node_ids.specs.Packing.{packed}
 use Rattle.node_ids.proofs.IdLemmas.{id_tells}
 use Rattle.op_model.specs.declared.Dataset.{Dataset}

@@ -30,9 +30,19 @@ pub fn chunk(dataset: &Dataset, layer: u8, sv: NodeId) -> NodeId
     ensures small { result < 2 ^ 62 }
 {
     let parts = dataset.layout.unpack(sv);
-    let base = Cell { x: parts.x, y: parts.y, z: parts.z };
+    let base = Cell {
+        x: parts.x,
+        y: parts.y,
+        z: parts.z,
+    };
     let cell = dataset.grid.chunk_at(layer, base);
-    let place = Parts { layer, x: cell.x, y: cell.y, z: cell.z, segment: 0 };
+    let place = Parts {
+        layer,
+        x: cell.x,
+        y: cell.y,
+        z: cell.z,
+        segment: 0,
+    };
     match dataset.layout.pack(place) {
         Ok(id) => id,
         Err(_) => unreachable!(),
@@ -40,7 +50,13 @@ pub fn chunk(dataset: &Dataset, layer: u8, sv: NodeId) -> NodeId
 }
 
 // the supervoxels of a chunk, ascending
-pub fn members(alloc: Global, dataset: &Dataset, base: &Base, layer: u8, place: NodeId) -> Result<Vec<NodeId>, NoMemory>
+pub fn members(
+    alloc: Global,
+    dataset: &Dataset,
+    base: &Base,
+    layer: u8,
+    place: NodeId,
+) -> Result<Vec<NodeId>, NoMemory>
     requires dataset { IsDataset dataset.now }
     requires base { IsBase dataset.now base.now }
     requires layer { (2 ≤ layer) × (layer ≤ top dataset.now) }

@@ -18,7 +18,13 @@ use std::alloc::Global;
 /// The supervoxels that walks of active pairs join to `sv` inside its chunk of the layer, `sv` among them, ascending.
 ///
 /// The layer is from 2 to the top layer. `NoMemory` comes for want of memory alone.
-pub fn component(alloc: Global, dataset: &Dataset, base: &Base, layer: u8, sv: NodeId) -> Result<Ids, NoMemory>
+pub fn component(
+    alloc: Global,
+    dataset: &Dataset,
+    base: &Base,
+    layer: u8,
+    sv: NodeId,
+) -> Result<Ids, NoMemory>
     requires dataset { IsDataset dataset.now }
     requires base { IsBase dataset.now base.now }
     requires layer { (2 ≤ layer) × (layer ≤ top dataset.now) }
@@ -32,7 +38,13 @@ pub fn component(alloc: Global, dataset: &Dataset, base: &Base, layer: u8, sv: N
 }
 
 // the least supervoxel of a node
-pub fn least(alloc: Global, dataset: &Dataset, base: &Base, layer: u8, sv: NodeId) -> Result<NodeId, NoMemory>
+pub fn least(
+    alloc: Global,
+    dataset: &Dataset,
+    base: &Base,
+    layer: u8,
+    sv: NodeId,
+) -> Result<NodeId, NoMemory>
     requires dataset { IsDataset dataset.now }
     requires base { IsBase dataset.now base.now }
     requires layer { (2 ≤ layer) × (layer ≤ top dataset.now) }
@@ -44,7 +56,13 @@ pub fn least(alloc: Global, dataset: &Dataset, base: &Base, layer: u8, sv: NodeI
 }
 
 // those of a list of supervoxels that are the least of their nodes
-pub fn firsts(alloc: Global, dataset: &Dataset, base: &Base, layer: u8, among: &[NodeId]) -> Result<Vec<NodeId>, NoMemory>
+pub fn firsts(
+    alloc: Global,
+    dataset: &Dataset,
+    base: &Base,
+    layer: u8,
+    among: &[NodeId],
+) -> Result<Vec<NodeId>, NoMemory>
     requires dataset { IsDataset dataset.now }
     requires base { IsBase dataset.now base.now }
     requires layer { (2 ≤ layer) × (layer ≤ top dataset.now) }

@@ -45,8 +45,12 @@ fn ingest(alloc: Global, at: u64, made: Vec<NodeId>) -> Entry
         line: 0,
         at,
         asked: Asked::Ingest,
-        changed: ChangedPairs { list: Vec::new(alloc) },
-        retired: Ids { list: Vec::new(alloc) },
+        changed: ChangedPairs {
+            list: Vec::new(alloc),
+        },
+        retired: Ids {
+            list: Vec::new(alloc),
+        },
         made: Ids { list: made },
     }
 }
@@ -55,7 +59,12 @@ fn ingest(alloc: Global, at: u64, made: Vec<NodeId>) -> Entry
 /// ascending.
 ///
 /// By `small_bases_are_legal` the log of this entry alone is legal for a base of at most 255 supervoxels. `NoMemory` comes for want of memory alone.
-pub fn first_entry(alloc: Global, dataset: &Dataset, base: &Base, at: u64) -> Result<Entry, NoMemory>
+pub fn first_entry(
+    alloc: Global,
+    dataset: &Dataset,
+    base: &Base,
+    at: u64,
+) -> Result<Entry, NoMemory>
     requires dataset { IsDataset dataset.now }
     requires base { IsBase dataset.now base.now }
     ensures { IfOk result (λ entry. entry ≡ first_entry dataset.now base.now at) }

@@ -35,11 +35,20 @@ fn new_end(edge: Edge, members: &[NodeId], from: NodeId, found: &[NodeId]) -> Op
     ensures others { (w : ℕ) → linked (edge ∷ []) from w ≡ true → has members.now w ≡ true → (has found.now w ≡ true) ⊎ (result ≡ Some w) }
 {
     let end = other_end(edge.pair, from);
-    if is_new(edge, members, from, end, found) { Some(end) } else { None }
+    if is_new(edge, members, from, end, found) {
+        Some(end)
+    } else {
+        None
+    }
 }
 
 // finds the member that an active pair joins to `from`
-fn add_end(edge: Edge, members: &[NodeId], from: NodeId, found: &mut Vec<NodeId>) -> Result<(), NoMemory>
+fn add_end(
+    edge: Edge,
+    members: &[NodeId],
+    from: NodeId,
+    found: &mut Vec<NodeId>,
+) -> Result<(), NoMemory>
     ensures { OnOk result (Grows (linked (edge ∷ [])) members.now from found.old.items found.new.items) }
 {
     match new_end(edge, members, from, found.as_slice()) {
@@ -52,7 +61,12 @@ fn add_end(edge: Edge, members: &[NodeId], from: NodeId, found: &mut Vec<NodeId>
 }
 
 // finds the members that active pairs join to `from`
-fn add_linked(edges: &[Edge], members: &[NodeId], from: NodeId, found: &mut Vec<NodeId>) -> Result<(), NoMemory>
+fn add_linked(
+    edges: &[Edge],
+    members: &[NodeId],
+    from: NodeId,
+    found: &mut Vec<NodeId>,
+) -> Result<(), NoMemory>
     ensures { OnOk result (Grows (linked edges.now) members.now from found.old.items found.new.items) }
 {
     for edge in edges {
@@ -62,7 +76,12 @@ fn add_linked(edges: &[Edge], members: &[NodeId], from: NodeId, found: &mut Vec<
 }
 
 /// The members that walks of active pairs among the members join to `start`, which is one of them, in the members' order.
-pub fn joined(alloc: Global, edges: &[Edge], members: &[NodeId], start: NodeId) -> Result<Vec<NodeId>, NoMemory>
+pub fn joined(
+    alloc: Global,
+    edges: &[Edge],
+    members: &[NodeId],
+    start: NodeId,
+) -> Result<Vec<NodeId>, NoMemory>
     requires { IsTrue (has members.now start) }
     ensures { IfOk result (λ v. v.items ≡ component_of (linked edges.now) members.now start) }
 {

@@ -1,4 +1,18 @@
-//! The hierarchy of a base, found by traversal of its active pairs, with no stored rows.
+//! The plain program of a base's hierarchy: it finds the node of a supervoxel by traversal of the active pairs inside a
+//! chunk, layer by layer, straight from the base, with no stored rows.
+//!
+//! The promise: components, nodes, roots, paths, the first entry and the count of its records are those of the
+//! operation model after the first entry alone. Each call takes time quadratic in the number of supervoxels or more: it
+//! is the body that faster ones are compared with. An octree of components is from Dorkenwald et al. 2022.
+//!
+//! - `lists`, `ordered`: lists of ids, and ascending ones.
+//! - `chunks`: the chunks of supervoxels, and what lies in them.
+//! - `growth`: the search in breadth inside a chunk.
+//! - `components`: the supervoxels of a node, and the least of them.
+//! - `nodes`: the nodes of supervoxels, their roots and paths.
+//! - `entry`: the entry of the ingest.
+//! - `records`: how many records the base takes.
+//! - `laws`: a small base begins a legal log.
 #![tactic(auto)]
 
 mod chunks;
@@ -10,6 +24,8 @@ mod lists;
 mod nodes;
 mod ordered;
 mod records;
+#[cfg(test)]
+mod tests;
 
 pub use components::component;
 pub use entry::first_entry;

@@ -33,7 +33,13 @@ pub fn numbered(place: NodeId, label: usize) -> NodeId
 /// The node of a supervoxel in a layer, from 2 to the top layer, after the first entry alone.
 ///
 /// `NoMemory` comes for want of memory alone.
-pub fn node(alloc: Global, dataset: &Dataset, base: &Base, layer: u8, sv: NodeId) -> Result<NodeId, NoMemory>
+pub fn node(
+    alloc: Global,
+    dataset: &Dataset,
+    base: &Base,
+    layer: u8,
+    sv: NodeId,
+) -> Result<NodeId, NoMemory>
     requires dataset { IsDataset dataset.now }
     requires base { IsBase dataset.now base.now }
     requires layer { (2 ≤ layer) × (layer ≤ top dataset.now) }

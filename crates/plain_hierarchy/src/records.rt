@@ -17,7 +17,12 @@ use pcg_base::NoMemory;
 use std::alloc::Global;
 
 // puts the chunks of a layer behind a list
-fn add_chunks(list: &mut Vec<NodeId>, dataset: &Dataset, base: &Base, layer: u8) -> Result<(), NoMemory>
+fn add_chunks(
+    list: &mut Vec<NodeId>,
+    dataset: &Dataset,
+    base: &Base,
+    layer: u8,
+) -> Result<(), NoMemory>
     requires dataset { IsDataset dataset.now }
     requires base { IsBase dataset.now base.now }
     requires layer { (2 ≤ layer) × (layer ≤ top dataset.now) }

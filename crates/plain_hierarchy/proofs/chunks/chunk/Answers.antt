@@ -1,6 +1,6 @@
-use Rattle.std.proofs.Common.{◌≡◌, ◌≤◌, ◌<◌, ◌^◌, Ok, arith, sym, subst}
-use Rattle.op_model.specs.Chunks.{chunk, top}
-use Rattle.plain_hierarchy.proofs.Places.{packs, chunk_small, top_low, in_cell}
+use Rattle.std.proofs.Common.{◌≤◌, ◌<◌, ◌^◌, arith, sym, subst}
+use Rattle.op_model.specs.Chunks.{top}
+use Rattle.plain_hierarchy.proofs.Places.{packs, chunk_small, top_low}
 use Rattle.plain_hierarchy.proofs.chunks.chunk.Goals as goal
 
 pub chunk_at-cell-requires-clause-layer : goal.chunk_at-cell-requires-clause-layer

@@ -1,4 +1,4 @@
-use Rattle.std.proofs.Common.{◌≡◌, ◌≤◌, length, ap, ◌∙◌, rules, ◌==◌}
+use Rattle.std.proofs.Common.{◌≤◌, length, ap, ◌∙◌, rules, ◌==◌}
 use Rattle.std.proofs.lemmas.List.{take_all}
 use Rattle.std.specs.List.{filter}
 use Rattle.op_model.specs.Chunks.{chunk, members}

@@ -1,8 +1,8 @@
-use Rattle.std.proofs.Common.{◌≡◌, ℕ, true, sym, ◌∙◌, ap, subst}
+use Rattle.std.proofs.Common.{◌≡◌, true, sym, ◌∙◌, ap, subst}
 use Rattle.graph_model.specs.Lists.{has}
 use Rattle.graph_model.specs.Components.{component_of}
 use Rattle.op_model.specs.Edges.{linked}
-use Rattle.op_model.specs.Chunks.{chunk, members}
+use Rattle.op_model.specs.Chunks.{members}
 use Rattle.op_model.specs.Valid.{IsSupervoxel}
 use Rattle.op_model.proofs.LegalLemmas.{all_has}
 use Rattle.op_model.proofs.LabelLemmas.{in_members}

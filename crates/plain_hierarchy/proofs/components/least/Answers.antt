@@ -1,4 +1,4 @@
-use Rattle.std.proofs.Common.{◌≡◌, sym, ◌∙◌, ap}
+use Rattle.std.proofs.Common.{◌∙◌, ap}
 use Rattle.graph_model.specs.Lists.{head_or}
 use Rattle.op_model.specs.Labels.{least}
 use Rattle.plain_hierarchy.proofs.components.least.Goals as goal

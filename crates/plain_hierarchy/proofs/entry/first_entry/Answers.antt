@@ -1,4 +1,4 @@
-use Rattle.std.proofs.Common.{sym, ◌∙◌, ap}
+use Rattle.std.proofs.Common.{◌∙◌, ap}
 use Rattle.op_model.specs.Operations.{ascending}
 use Rattle.plain_hierarchy.proofs.Ingests.{entry_ingested}
 use Rattle.plain_hierarchy.proofs.entry.first_entry.Goals as goal

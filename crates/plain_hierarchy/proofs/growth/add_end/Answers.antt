@@ -1,4 +1,4 @@
-use Rattle.std.proofs.Common.{◌≡◌, ℕ, true, Some, [], ◌∷◌, ◌++◌, None, ap, sym, ◌∙◌, subst, inl, inr, ◌⊎◌}
+use Rattle.std.proofs.Common.{◌≡◌, true, [], ◌∷◌, sym, subst, inl, inr}
 use Rattle.op_model.specs.Edges.{linked}
 use Rattle.graph_model.specs.Lists.{has}
 use Rattle.plain_hierarchy.specs.Growth.{Grows, IsFresh}

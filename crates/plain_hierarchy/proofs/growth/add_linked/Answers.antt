@@ -1,4 +1,4 @@
-use Rattle.std.proofs.Common.{[], ◌∷◌, take, get_or, ◌+◌, subst, sym}
+use Rattle.std.proofs.Common.{[], ◌∷◌, take, get_or, ◌+◌, subst}
 use Rattle.op_model.specs.Edges.{linked}
 use Rattle.plain_hierarchy.specs.Growth.{Grows}
 use Rattle.plain_hierarchy.proofs.Growing.{grows_none, grows_more, linked_none, linked_next}

@@ -1,4 +1,4 @@
-use Rattle.std.proofs.Common.{◌≡◌, ◌≤◌, ◌<◌, length, [], ◌∷◌, ◌++◌, subst, sym, ◌∙◌, ap, get_or, arith, rules, IfOk}
+use Rattle.std.proofs.Common.{◌≡◌, ◌≤◌, ◌<◌, length, [], ◌∷◌, ◌++◌, subst, sym, ◌∙◌, ap, arith, rules, IfOk}
 use Rattle.std.specs.List.{filter}
 use Rattle.graph_model.specs.Lists.{has}
 use Rattle.op_model.specs.Edges.{linked}

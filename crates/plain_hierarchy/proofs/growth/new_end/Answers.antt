@@ -1,4 +1,4 @@
-use Rattle.std.proofs.Common.{◌≡◌, true, Some, None, ap, inl, inr, sym, ◌∙◌}
+use Rattle.std.proofs.Common.{Some, ap, inl, inr, sym, ◌∙◌}
 use Rattle.plain_hierarchy.proofs.Growing.{fresh_end, old_end, linked_cons}
 use Rattle.plain_hierarchy.proofs.growth.new_end.Goals as goal
 

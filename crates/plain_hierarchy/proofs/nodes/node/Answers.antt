@@ -1,4 +1,4 @@
-use Rattle.std.proofs.Common.{◌≡◌, ◌≤◌, ◌<◌, ◌+◌, ℕ, true, length, sym, ◌∙◌, ap, subst, arith, leb}
+use Rattle.std.proofs.Common.{◌≡◌, ◌+◌, true, ◌∙◌, ap, subst, arith, leb}
 use mathlib.Core.Path.{ap₂}
 use Rattle.graph_model.specs.Lists.{has}
 use Rattle.graph_model.proofs.ListLemmas.{filter_length}

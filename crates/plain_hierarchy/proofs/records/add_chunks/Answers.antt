@@ -1,4 +1,4 @@
-use Rattle.std.proofs.Common.{◌≡◌, ◌≤◌, ◌<◌, ◌++◌, ◌∷◌, [], map, take, length, get_or, append_assoc, append-nil, sym, ◌∙◌, ap, subst, arith, rules, refl}
+use Rattle.std.proofs.Common.{◌≡◌, ◌≤◌, ◌<◌, ◌++◌, ◌∷◌, [], map, take, length, get_or, append_assoc, append-nil, sym, ◌∙◌, ap, subst, refl}
 use Rattle.std.proofs.lemmas.List.{take_all}
 use Rattle.op_model.specs.Chunks.{chunk}
 use Rattle.plain_hierarchy.proofs.Counts.{map_next}

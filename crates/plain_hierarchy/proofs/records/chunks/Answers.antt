@@ -1,6 +1,6 @@
-use Rattle.std.proofs.Common.{◌≡◌, ◌++◌, ◌+◌, ◌-◌, ℕ, List, map, sym, ◌∙◌, ap, arith}
+use Rattle.std.proofs.Common.{◌≡◌, ◌++◌, ◌+◌, ◌-◌, ℕ, List, map, ◌∙◌, ap, arith}
 use Rattle.std.specs.List.{flat_map}
-use Rattle.op_model.specs.Chunks.{chunk, layers, layers_from, top}
+use Rattle.op_model.specs.Chunks.{chunk, layers, layers_from}
 use Rattle.plain_hierarchy.proofs.Counts.{pieces_more}
 use Rattle.plain_hierarchy.proofs.records.chunks.Goals as goal
 

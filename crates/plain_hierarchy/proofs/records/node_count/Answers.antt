@@ -1,6 +1,6 @@
-use Rattle.std.proofs.Common.{◌≡◌, ◌≤◌, ◌+◌, ◌-◌, ◌*◌, ◌^◌, ℕ, map, refl, sym, ◌∙◌, ap, arith}
+use Rattle.std.proofs.Common.{◌≡◌, ◌+◌, ◌-◌, ℕ, map, refl, ◌∙◌, ap, arith}
 use mathlib.Core.Path.{ap₂}
-use Rattle.op_model.specs.Chunks.{layers, layers_from, top}
+use Rattle.op_model.specs.Chunks.{layers, layers_from}
 use Rattle.op_model.specs.Records.{node_count, nodes_in, total}
 use Rattle.plain_hierarchy.specs.Ingest.{ingested}
 use Rattle.plain_hierarchy.proofs.Counts.{totals_more}

@@ -1,4 +1,4 @@
-use Rattle.std.proofs.Common.{◌≡◌, ◌≤◌, length, eqb, sym, ◌∙◌, ap, arith, rules}
+use Rattle.std.proofs.Common.{◌≡◌, length, eqb, ◌∙◌, ap, arith, rules}
 use Rattle.graph_model.proofs.ListLemmas.{filter_length}
 use Rattle.op_model.specs.Labels.{least}
 use Rattle.op_model.specs.Records.{nodes_in}

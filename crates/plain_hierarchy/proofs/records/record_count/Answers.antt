@@ -1,4 +1,4 @@
-use Rattle.std.proofs.Common.{◌≡◌, length, map, sym, ◌∙◌, ap, rules}
+use Rattle.std.proofs.Common.{◌≡◌, length, map, ◌∙◌, ap, rules}
 use Rattle.std.specs.List.{flat_map}
 use Rattle.op_model.specs.Chunks.{chunk, layers, top}
 use Rattle.op_model.specs.Operations.{ascending}
