@@ -1,4 +1,4 @@
--- The base that two tables in the plain form spell.
+-- The base that two tables in the plain form spell. A text with a quote or a carriage return spells none, since no header and no field has one.
 use Rattle.std.specs.Prelude.{◌≡◌, ℕ, Bool, ◌&&◌, nat_le, List, [], length, Option, Some, None, option_map, Result, Ok, Err, codes, ⊤}
 use Rattle.std.specs.List.{list_all}
 use Rattle.node_ids.specs.Digits.{number_of}
