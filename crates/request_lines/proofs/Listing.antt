@@ -1,6 +1,6 @@
 -- What is left of a list's text while it is written item by item.
-use Rattle.std.proofs.Common.{◌≡◌, ℕ, zero, suc, ◌+◌, ◌<◌, ◌==◌, if◌then◌else◌, List, [], ◌∷◌, ◌++◌, map, codes, length, drop, get_or, ap, sym, ◌∙◌, refl, add-one, arith, false}
-use Rattle.std.proofs.lemmas.List.{append_assoc, drop_more}
+use Rattle.std.proofs.Common.{◌≡◌, ℕ, zero, suc, ◌+◌, ◌<◌, ◌==◌, if◌then◌else◌, List, [], ◌∷◌, ◌++◌, map, codes, length, drop, get_or, sym, refl, add-one, arith, false}
+use Rattle.std.proofs.lemmas.List.{drop_more}
 use Rattle.request_lines.specs.Json.{joined, following}
 
 -- the items from an index on

@@ -1,7 +1,6 @@
 -- One text behind another.
-use Rattle.std.proofs.Common.{◌≡◌, ℕ, ◌≤◌, Bool, true, false, List, [], ◌++◌, Option, Some, None, ap, sym, ◌∙◌, arith, refl, take, take-add, drop}
+use Rattle.std.proofs.Common.{◌≡◌, ℕ, Bool, true, false, List, [], ◌++◌, Option, Some, None, ap, sym, ◌∙◌, arith, refl}
 use Rattle.std.proofs.lemmas.List.{append_assoc, append-nil}
-use Rattle.std.specs.Io.KnownBytes.{Keeps, Appends}
 use Rattle.pcg_base.specs.Causes.{Rose}
 use Rattle.pcg_base.specs.Told.{AppendsFront}
 use Rattle.request_lines.specs.declared.page.Page.{Page}

@@ -1,5 +1,5 @@
 -- What a sink holds after one text and then another.
-use Rattle.std.proofs.Common.{◌≡◌, ℕ, ◌+◌, ◌≤◌, ◌^◌, ◌-◌, min, List, ◌++◌, Option, Some, None, ap, sym, ◌∙◌, arith, refl}
+use Rattle.std.proofs.Common.{◌≡◌, ℕ, ◌≤◌, List, ◌++◌, Option, Some, None, ap, sym, ◌∙◌, arith, refl}
 use Rattle.std.proofs.lemmas.List.{append_assoc}
 use Rattle.std.specs.Io.KnownBytes.{Keeps}
 use Rattle.pcg_base.specs.Causes.{Rose}

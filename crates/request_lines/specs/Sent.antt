@@ -1,6 +1,6 @@
 -- What a sink holds and what waits before it, while a text goes there by way of a page.
 use Rattle.request_lines.specs.declared.page.Page.{Page}
-use Rattle.std.specs.Prelude.{◌≡◌, ℕ, ◌≤◌, Bool, true, false, List, [], ◌++◌, take, ⊤, Option, Some, None}
+use Rattle.std.specs.Prelude.{◌≡◌, ℕ, ◌≤◌, true, false, List, ◌++◌, take, ⊤, Option, Some, None}
 use Rattle.std.specs.Io.KnownBytes.{Keeps}
 use Rattle.pcg_base.specs.Causes.{Rose}
 use Rattle.pcg_base.specs.Told.{AppendsFront}

@@ -1,4 +1,4 @@
-use Rattle.std.proofs.Common.{refl, arith, ap, sym, ◌∙◌, ◌≡◌, ◌++◌, ◌==◌, if◌then◌else◌, [], map, codes, ◌+◌, drop}
+use Rattle.std.proofs.Common.{refl, ap, sym, ◌∙◌, ◌≡◌, ◌++◌, ◌==◌, if◌then◌else◌, [], map, codes, ◌+◌, drop}
 use Rattle.std.proofs.lemmas.List.{append_assoc, drop_all}
 use Rattle.request_lines.proofs.Putting.{puts_both, puts_then}
 use Rattle.request_lines.proofs.Listing.{continuing, continuing_next, continuing_none}

@@ -1,6 +1,6 @@
 use Rattle.std.proofs.Common.{rules, ◌≡◌}
 use Rattle.request_lines.specs.Texts.{reply_text}
-use Rattle.request_lines.proofs.Putting.{puts_then, puts_same}
+use Rattle.request_lines.proofs.Putting.{puts_then}
 use Rattle.request_lines.proofs.replies.put_changes.Goals as goal
 
 pub returns : goal.returns

@@ -1,4 +1,4 @@
-use Rattle.std.proofs.Common.{rules, ◌≡◌, ap}
+use Rattle.std.proofs.Common.{rules, ap}
 use Rattle.request_lines.specs.Texts.{ids_text}
 use Rattle.request_lines.proofs.Putting.{puts_then, puts_same}
 use Rattle.request_lines.proofs.replies.put_ids.Goals as goal

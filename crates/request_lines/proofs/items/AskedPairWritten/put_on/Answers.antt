@@ -1,7 +1,5 @@
-use Rattle.std.proofs.Common.{sym, ap}
-use Rattle.request_lines.specs.Json.{quoted}
 use Rattle.request_lines.specs.Items.{asked_pair_text}
-use Rattle.request_lines.proofs.Putting.{puts_then, puts_same}
+use Rattle.request_lines.proofs.Putting.{puts_then}
 use Rattle.request_lines.proofs.items.AskedPairWritten.put_on.Goals as goal
 
 pub returns : goal.returns

@@ -1,5 +1,4 @@
-use Rattle.std.proofs.Common.{sym, ap}
-use Rattle.request_lines.specs.Json.{quoted}
+use Rattle.std.proofs.Common.{sym}
 use Rattle.request_lines.specs.Items.{changed_text}
 use Rattle.request_lines.proofs.Putting.{puts_then, puts_same}
 use Rattle.request_lines.proofs.items.ChangedWritten.put_on.Goals as goal

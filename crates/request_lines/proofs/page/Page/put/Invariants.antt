@@ -1,4 +1,4 @@
-use Rattle.std.proofs.Common.{length, ◌-◌, ◌≡◌, ◌≤◌, take}
+use Rattle.std.proofs.Common.{length, ◌-◌, ◌≤◌, take}
 use Rattle.request_lines.specs.Sent.{Puts}
 use Rattle.request_lines.proofs.page.Page.put.Given as goal
 

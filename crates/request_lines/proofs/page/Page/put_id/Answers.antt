@@ -1,4 +1,4 @@
-use Rattle.std.proofs.Common.{rules, ap, refl, ◌++◌, decimal, codes}
+use Rattle.std.proofs.Common.{rules, refl, ◌++◌, decimal, codes}
 use Rattle.request_lines.specs.Json.{id_text}
 use Rattle.request_lines.proofs.Putting.{puts_both}
 use Rattle.request_lines.proofs.page.Page.put_id.Goals as goal

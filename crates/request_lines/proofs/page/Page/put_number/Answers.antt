@@ -1,4 +1,4 @@
-use Rattle.std.proofs.Common.{rules, ap, ◌++◌, decimal}
+use Rattle.std.proofs.Common.{rules, ◌++◌, decimal}
 use Rattle.request_lines.proofs.Putting.{puts_both}
 use Rattle.request_lines.proofs.page.Page.put_number.Goals as goal
 
