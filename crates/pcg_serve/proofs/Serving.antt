@@ -1,6 +1,6 @@
 -- A session, reply by reply.
 use Rattle.std.proofs.Common.{◌≡◌, ℕ, ◌+◌, Bool, true, false, List, [], ◌∷◌, ◌++◌, length, map, cond, Option, Some, None, refl, sym, ◌∙◌, ap, subst, arith, append_assoc, zero-add, count_by, length-append}
-use Rattle.std.specs.Prelude.{⊤, ⊥, option_to_list, is_some}
+use Rattle.std.specs.Prelude.{⊤, option_to_list, is_some}
 use Rattle.std.specs.Io.KnownBytes.{Appends}
 use Rattle.std.proofs.lemmas.List.{append-nil}
 use Rattle.std.proofs.lemmas.List.Sums.{sum_by-append}
@@ -50,8 +50,8 @@ starts d b log stream held = record {
   serves = tt;
   each = refl;
   wrote = appends_none held;
-  lines = refl;
-  refused = refl;
+  count = refl;
+  noes = refl;
 }
 
 -- the lines that are left begin with the next one
@@ -68,8 +68,8 @@ goes_on d b log stream rest line next held between held' lines refused r so e a 
   serves = serves_more d b log so.done so.written (asked_plain line) r [] so.serves so.each a;
   each = length-append so.written (r ∷ []) ∙ omega (arith, so.each, length-append so.done (asked_plain line ∷ []));
   wrote = appends_more held between held' (texts so.written) (reply_text r) (texts (so.written ++ r ∷ [])) (texts-append so.written (r ∷ []) ∙ ap (λ t. texts so.written ++ t) (texts-one r)) so.wrote w;
-  lines = omega (arith, so.lines, length-append so.written (r ∷ []));
-  refused = ap (λ n. n + cond (refuses r) 1 0) so.refused ∙ sym (count_more so.written r);
+  count = omega (arith, so.count, length-append so.written (r ∷ []));
+  noes = ap (λ n. n + cond (refuses r) 1 0) so.noes ∙ sym (count_more so.written r);
 }
 
 -- a stream of which nothing is left
@@ -85,8 +85,8 @@ ends d b log stream rest held held' s so e f =
       wrote = so.wrote;
       failed = f;
       whole = λ n. so.each ∙ ap length (sym all);
-      lines = so.lines;
-      refused = so.refused;
+      count = so.count;
+      refused = so.noes;
     }
 
 -- the writing of a reply failed
@@ -100,6 +100,6 @@ breaks d b log stream rest line next held between held' s r so e a w f = record 
   wrote = (between, so.wrote, w);
   failed = f;
   whole = λ n. absurd (cc);
-  lines = so.lines;
-  refused = so.refused;
+  count = so.count;
+  refused = so.noes;
 }

@@ -1,5 +1,5 @@
 -- What a client gets to its lines, over the log of the first entry.
-use Rattle.std.specs.Prelude.{◌≡◌, ℕ, Bool, true, false, ◌++◌, List, [], ◌∷◌, map, length, count_by, is_some, option_to_list, ⊤, ⊥, Option, Some, None}
+use Rattle.std.specs.Prelude.{◌≡◌, ℕ, Bool, true, false, ◌++◌, List, [], ◌∷◌, map, length, count_by, is_some, option_to_list, ⊤, Option, Some, None}
 use Rattle.std.specs.Io.KnownBytes.{Appends}
 use Rattle.op_model.specs.declared.Dataset.{Dataset}
 use Rattle.op_model.specs.declared.Base.{Base}
@@ -57,7 +57,7 @@ pub record Did (d : Dataset) (b : Base) (log : List Entry) (lines : List Line) (
   pub wrote : Wrote held held' written last
   pub failed : s.failed ≡ is_some last
   pub whole : last ≡ None → length written ≡ length lines
-  pub lines : s.lines ≡ length written
+  pub count : s.lines ≡ length written
   pub refused : s.refused ≡ count_by refuses written
 
 -- What a session did so far: these bytes of the stream are left, and each line before them has its reply.
@@ -68,5 +68,5 @@ pub record SoFar (d : Dataset) (b : Base) (log : List Entry) (stream rest : List
   pub serves : Serves d b log done written
   pub each : length written ≡ length done
   pub wrote : Appends held held' (texts written)
-  pub lines : lines ≡ length written
-  pub refused : refused ≡ count_by refuses written
+  pub count : lines ≡ length written
+  pub noes : refused ≡ count_by refuses written

@@ -11,7 +11,7 @@ ghost use Rattle.request_lines.specs.Plain.{asked_plain};
 
 use node_ids::NodeId;
 use op_model::pairs::contains;
-use op_model::{Base, Dataset, Read, Refusal, Reply};
+use op_model::{Base, Dataset, Refusal, Reply};
 use pcg_base::{NoMemory, Sink};
 use crate::ingest::Ingest;
 use plain_hierarchy::root;
@@ -57,8 +57,8 @@ fn reply_to(alloc: Global, dataset: &Dataset, base: &Base, line: &[u8]) -> Reply
     ensures { (at : ℕ) → Answers dataset.now base.now (ingested dataset.now base.now at) (asked_plain line.now) result }
 {
     match read_plain_line(line) {
-        Some(Read::Root { sv, at: None }) => root_of(alloc, dataset, base, sv),
-        _ => Reply::NotBuilt,
+        Some(sv) => root_of(alloc, dataset, base, sv),
+        None => Reply::NotBuilt,
     }
 }
 

@@ -1,6 +1,5 @@
 -- The one form of a line that is read without JSON.
 use Rattle.std.specs.Prelude.{ℕ, ◌-◌, if◌then◌else◌, List, codes, length, take, drop, bytes_eq, Option, Some, None, option_and_then}
-use Rattle.op_model.specs.declared.Read.{Read}
 use Rattle.op_model.specs.declared.Read.TheVariants as read
 use Rattle.op_model.specs.declared.Request.TheVariants as request
 use Rattle.op_model.specs.Transcript.{Line, Asks, Unbuilt}
@@ -28,10 +27,6 @@ plain_id line = option_and_then number_of (plain_digits line)
 abbrev pub asks_root : Option ℕ → Line
 asks_root None = Unbuilt
 asks_root (Some id) = Asks (request.Read (read.Root id None))
-
-abbrev pub asks_read : Option Read → Line
-asks_read None = Unbuilt
-asks_read (Some q) = Asks (request.Read q)
 
 -- what a line asks
 abbrev pub asked_plain : List ℕ → Line

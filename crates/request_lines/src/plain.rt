@@ -2,10 +2,9 @@
 
 ghost use Rattle.std.specs.Prelude.{◌≡◌};
 ghost use Rattle.std.specs.Option.{option_map};
-ghost use Rattle.request_lines.specs.Plain.{asked_plain, asks_read, plain_digits};
+ghost use Rattle.request_lines.specs.Plain.{plain_digits, plain_id};
 
 use node_ids::{NodeId, read_digits};
-use op_model::Read;
 
 /// What stands between the words of the line that asks for a root.
 fn digits_of(line: &[u8]) -> Option<&[u8]>
@@ -15,16 +14,13 @@ fn digits_of(line: &[u8]) -> Option<&[u8]>
     rest.strip_suffix(b"\"}")
 }
 
-/// The request of a line that is `{"do":"root","sv":"`, the digits of a supervoxel, and `"}`: its
+/// The supervoxel of a line that is `{"do":"root","sv":"`, its digits, and `"}`: the line asks for its
 /// root now. `None` where the line is anything else. It takes no memory.
 #[tactic(auto, unfolding(crate::specs::Plain::plain_id))]
-pub fn read_plain_line(line: &[u8]) -> Option<Read>
-    ensures { asks_read result ≡ asked_plain line.now }
+pub fn read_plain_line(line: &[u8]) -> Option<NodeId>
+    ensures { result ≡ plain_id line.now }
 {
     let digits = digits_of(line)?;
     let id = read_digits(digits)?;
-    Some(Read::Root {
-        sv: NodeId(id),
-        at: None,
-    })
+    Some(NodeId(id))
 }
