@@ -1,2 +1,5 @@
 pub mod Answering
 pub mod Serving
+pub mod Ingesting
+pub mod Stopping
+pub mod TableLemmas

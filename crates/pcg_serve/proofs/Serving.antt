@@ -15,7 +15,7 @@ use Rattle.request_lines.specs.Texts.{reply_text}
 use Rattle.pcg_base.specs.Told.{AppendsFront}
 use Rattle.pcg_base.proofs.Appending.{appends_more}
 use Rattle.pcg_serve.specs.declared.session.Session.{Session}
-use Rattle.pcg_serve.specs.Sessions.{asked_of, Answers, Serves, texts, refuses, Did, SoFar}
+use Rattle.pcg_serve.specs.Sessions.{asked_of, Answers, Serves, Replies, texts, refuses, Did, SoFar}
 
 texts-append : (rs more : List Reply) → texts (rs ++ more) ≡ texts rs ++ texts more
 unfolding texts
@@ -103,3 +103,21 @@ breaks d b log stream rest line next held between held' s r so e a w f = record 
   count = so.count;
   refused = so.noes;
 }
+
+-- the next line has its reply
+pub next : (d : Dataset) (b : Base) (log : List Entry) (stream rest line more : List ℕ) (held between held' : Option (List ℕ)) (before after : Session)
+    → SoFar d b log stream rest held between before.lines before.refused → lines_of rest ≡ line ∷ lines_of more
+    → Replies d b log (asked_plain line) between held' before after → after.failed ≡ false
+    → SoFar d b log stream more held held' after.lines after.refused
+next d b log stream rest line more held between held' before after so e h f =
+    let got = goes_on d b log stream rest line more held between held' before.lines before.refused h.0 so e h.1 (h.2.wrote f) in
+    rw (h.2.count f) (rw (h.2.noes f) got)
+
+-- the next line's reply broke off
+pub last_line : (d : Dataset) (b : Base) (log : List Entry) (stream rest line more : List ℕ) (held between held' : Option (List ℕ)) (before after : Session)
+    → SoFar d b log stream rest held between before.lines before.refused → lines_of rest ≡ line ∷ lines_of more
+    → Replies d b log (asked_plain line) between held' before after → after.failed ≡ true
+    → Did d b log (asked_of stream) held held' after
+last_line d b log stream rest line more held between held' before after so e h f =
+    let same = h.2.same f in
+    breaks d b log stream rest line more held between held' after h.0 (rw same.0 (rw same.1 so)) e h.1 (h.2.broke f) f

@@ -47,3 +47,15 @@ StopsAt m stem reads reads' writes writes' (stops.ReadFault client file) = Rose 
 StopsAt m stem reads reads' writes writes' (stops.WriteFault client file) = Rose writes writes'
 StopsAt m stem reads reads' writes writes' stops.NotBuilt = LongAt m stem
 StopsAt m stem reads reads' writes writes' stops.NoMemory = ⊤
+
+-- the status of a call that came past its sessions, where a fault of its output doesn't count
+abbrev pub EndsSo : ℕ → ℕ → ℕ → ℕ → ℕ → Type 0
+EndsSo reads reads' writes writes' status = (status ≡ 0) ⊎ ((status ≡ 2) × Rose reads reads') ⊎ ((status ≡ 4) × Rose writes writes')
+
+-- why the tables gave no base
+abbrev pub TablesStop : Option Files → RehearseJob → ℕ → ℕ → Stop → Type 0
+TablesStop m job reads reads' stops.BadWords = ⊥
+TablesStop m job reads reads' (stops.ReadFault client file) = Rose reads reads'
+TablesStop m job reads reads' (stops.WriteFault client file) = ⊥
+TablesStop m job reads reads' stops.NotBuilt = HasNoBase m job
+TablesStop m job reads reads' stops.NoMemory = ⊤

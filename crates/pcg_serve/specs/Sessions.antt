@@ -1,5 +1,5 @@
 -- What a client gets to its lines, over the log of the first entry.
-use Rattle.std.specs.Prelude.{◌≡◌, ℕ, Bool, true, false, ◌++◌, List, [], ◌∷◌, map, length, count_by, is_some, option_to_list, ⊤, Option, Some, None}
+use Rattle.std.specs.Prelude.{◌≡◌, ℕ, ◌+◌, if◌then◌else◌, Bool, true, false, ◌++◌, List, [], ◌∷◌, map, length, count_by, is_some, option_to_list, ⊤, Option, Some, None}
 use Rattle.std.specs.Io.KnownBytes.{Appends}
 use Rattle.op_model.specs.declared.Dataset.{Dataset}
 use Rattle.op_model.specs.declared.Base.{Base}
@@ -59,6 +59,18 @@ pub record Did (d : Dataset) (b : Base) (log : List Entry) (lines : List Line) (
   pub whole : last ≡ None → length written ≡ length lines
   pub count : s.lines ≡ length written
   pub refused : s.refused ≡ count_by refuses written
+
+-- a reply was written and counted, or its writing failed
+pub record Counts (held held' : Option (List ℕ)) (r : Reply) (before after : Session) : Type 0 where
+  pub wrote : after.failed ≡ false → Appends held held' (reply_text r)
+  pub broke : after.failed ≡ true → AppendsFront held held' (reply_text r)
+  pub count : after.failed ≡ false → after.lines ≡ before.lines + 1
+  pub noes : after.failed ≡ false → after.refused ≡ before.refused + (if refuses r then 1 else 0)
+  pub same : after.failed ≡ true → (after.lines ≡ before.lines) × (after.refused ≡ before.refused)
+
+-- the same of some reply that a client may get to the line
+abbrev pub Replies : Dataset → Base → List Entry → Line → Option (List ℕ) → Option (List ℕ) → Session → Session → Type 0
+Replies d b log line held held' before after = (r : Reply) × Answers d b log line r × Counts held held' r before after
 
 -- What a session did so far: these bytes of the stream are left, and each line before them has its reply.
 pub record SoFar (d : Dataset) (b : Base) (log : List Entry) (stream rest : List ℕ) (held held' : Option (List ℕ)) (lines refused : ℕ) : Type 0 where

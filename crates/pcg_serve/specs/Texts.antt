@@ -47,5 +47,5 @@ client_fault_text f = array (decimal f.client ∷ quoted (fault_name f.fault) �
 unfoldable pub summary_text : Summary → List ℕ
 summary_text s =
     line (member (codes "accepted") (decimal s.accepted) ∷ member (codes "clients") (decimal s.clients) ∷ member (codes "entries") (decimal s.entries)
-        ∷ member (codes "faults") (array (map client_fault_text s.faults.items)) ∷ member (codes "lines") (decimal s.lines) ∷ member (codes "records") (decimal s.records)
-        ∷ member (codes "refused") (decimal s.refused) ∷ member (codes "roots") (decimal s.roots) ∷ member (codes "status") (decimal s.status) ∷ [])
+    ∷ member (codes "faults") (array (map client_fault_text s.faults.items)) ∷ member (codes "lines") (decimal s.lines) ∷ member (codes "records") (decimal s.records)
+    ∷ member (codes "refused") (decimal s.refused) ∷ member (codes "roots") (decimal s.roots) ∷ member (codes "status") (decimal s.status) ∷ [])

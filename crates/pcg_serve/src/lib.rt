@@ -7,3 +7,4 @@ mod session;
 mod stops;
 mod streams;
 mod summary;
+mod tables;

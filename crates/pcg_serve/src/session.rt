@@ -1,6 +1,6 @@
 //! A client's session: each line of its requests gets one reply.
 
-ghost use Rattle.std.specs.Prelude.{◌≡◌, ◌≤◌, ◌<◌, ◌+◌, ◌^◌, ◌∷◌, [], ℕ, None, length, IsTrue, if◌then◌else◌};
+ghost use Rattle.std.specs.Prelude.{◌≡◌, ◌≤◌, ◌<◌, ◌+◌, ◌^◌, ◌∷◌, [], ℕ, None, length, IsTrue};
 ghost use Rattle.op_model.specs.Transcript.{Asks};
 ghost use Rattle.op_model.specs.declared.Request.TheVariants as request;
 ghost use Rattle.op_model.specs.declared.Read.TheVariants as read;
@@ -9,11 +9,11 @@ ghost use Rattle.op_model.specs.Valid.{IsBase, IsDataset};
 ghost use Rattle.plain_hierarchy.specs.Ingest.{ingested};
 ghost use Rattle.request_lines.specs.Plain.{asked_plain};
 
+use crate::ingest::Ingest;
 use node_ids::NodeId;
 use op_model::pairs::contains;
 use op_model::{Base, Dataset, Refusal, Reply};
 use pcg_base::{NoMemory, Sink};
-use crate::ingest::Ingest;
 use plain_hierarchy::root;
 use request_lines::{read_plain_line, split_line, write_reply};
 use std::alloc::Global;
@@ -29,7 +29,7 @@ pub struct Session {
     pub failed: bool,
 }
 
-ghost use Rattle.pcg_serve.specs.Sessions.{Answers, Did, asked_of, refuses};
+ghost use Rattle.pcg_serve.specs.Sessions.{Answers, Counts, Did, Replies, asked_of, refuses};
 ghost use Rattle.pcg_serve.specs.Ingests.{IsIngest, log_of};
 
 /// The reply to a read of a root.
@@ -75,20 +75,48 @@ fn refuses(reply: &Reply) -> bool
     }
 }
 
-/// Counts a reply that was written.
-fn counted(session: Session, reply: &Reply) -> Session
+/// Writes a reply and counts it.
+fn write_counted<K: Sink>(reply: &Reply, session: Session, out: &mut K) -> Session
     requires room { session.lines + 1 < 2 ^ 32 }
     requires refused { session.refused ≤ session.lines }
-    ensures lines { result.lines ≡ session.lines + 1 }
-    ensures refused { result.refused ≡ session.refused + (if refuses reply.now then 1 else 0) }
-    ensures failed { result.failed ≡ session.failed }
+    ensures counts { Counts (K.held out.old) (K.held out.new) reply.now session result }
+    ensures cause { IsTrue result.failed → Rose (K.faults out.old) (K.faults out.new) }
+    ensures later { K.faults out.old ≤ K.faults out.new }
+    ensures few { (result.lines ≤ session.lines + 1) × (result.refused ≤ result.lines) }
 {
+    if write_reply(reply, out).is_err() {
+        return Session {
+            lines: session.lines,
+            refused: session.refused,
+            failed: true,
+        };
+    }
     let no = if refuses(reply) { 1 } else { 0 };
     Session {
         lines: session.lines + 1,
         refused: session.refused + no,
-        failed: session.failed,
+        failed: false,
     }
+}
+
+/// Answers one line.
+fn answer_line<K: Sink>(
+    alloc: Global,
+    ingest: &Ingest,
+    line: &[u8],
+    session: Session,
+    out: &mut K,
+) -> Session
+    requires ingest { IsIngest ingest.now }
+    requires room { session.lines + 1 < 2 ^ 32 }
+    requires refused { session.refused ≤ session.lines }
+    ensures replies { Replies ingest.now.dataset ingest.now.base (log_of ingest.now) (asked_plain line.now) (K.held out.old) (K.held out.new) session result }
+    ensures cause { IsTrue result.failed → Rose (K.faults out.old) (K.faults out.new) }
+    ensures later { K.faults out.old ≤ K.faults out.new }
+    ensures few { (result.lines ≤ session.lines + 1) × (result.refused ≤ result.lines) }
+{
+    let reply = reply_to(alloc, &ingest.dataset, &ingest.base, line);
+    write_counted(&reply, session, out)
 }
 
 /// Answers the lines of a request stream, each before the next, and stops where the writing of a
@@ -107,12 +135,10 @@ pub fn serve<K: Sink>(alloc: Global, ingest: &Ingest, stream: &[u8], out: &mut K
     };
     let mut rest = stream;
     while let Some((line, next)) = split_line(rest) {
-        let reply = reply_to(alloc, &ingest.dataset, &ingest.base, line);
-        if write_reply(&reply, out).is_err() {
-            session.failed = true;
+        session = answer_line(alloc, ingest, line, session, out);
+        if session.failed {
             return session;
         }
-        session = counted(session, &reply);
         rest = next;
     }
     session

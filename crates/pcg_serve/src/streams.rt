@@ -41,13 +41,22 @@ pub fn read_stream<S: Source>(alloc: Global, from: &mut S, limit: u64) -> Result
     for turn in 0..u64::MAX {
         let count = match from.read(&mut piece) {
             Ok(count) => count,
-            Err(_) => return Ok(Stream { bytes, end: StreamEnd::Broken }),
+            Err(_) => return Ok(Stream {
+                bytes,
+                end: StreamEnd::Broken,
+            }),
         };
         if count == 0 {
-            return Ok(Stream { bytes, end: StreamEnd::Whole });
+            return Ok(Stream {
+                bytes,
+                end: StreamEnd::Whole,
+            });
         }
         if count as u64 > limit - bytes.len() as u64 {
-            return Ok(Stream { bytes, end: StreamEnd::TooLong });
+            return Ok(Stream {
+                bytes,
+                end: StreamEnd::TooLong,
+            });
         }
         match bytes.extend_from_slice(&piece[..count]) {
             Ok(()) => {}
