@@ -4,6 +4,8 @@ use Rattle.std.specs.FinMap.{get}
 use Rattle.pcg_base.specs.Causes.{Rose}
 use Rattle.pcg_base.specs.Told.{Files}
 use Rattle.pcg_words.specs.declared.job.RehearseJob.{RehearseJob}
+use Rattle.pcg_words.specs.declared.job.Job.{Job}
+use Rattle.pcg_words.specs.declared.job.Job.TheVariants as job
 use Rattle.pcg_words.specs.Job.{request_file}
 use Rattle.pcg_serve.specs.declared.stops.Stop.{Stop}
 use Rattle.pcg_serve.specs.declared.stops.Stop.TheVariants as stops
@@ -59,3 +61,12 @@ TablesStop m job reads reads' (stops.ReadFault client file) = Rose reads reads'
 TablesStop m job reads reads' (stops.WriteFault client file) = ⊥
 TablesStop m job reads reads' stops.NotBuilt = HasNoBase m job
 TablesStop m job reads reads' stops.NoMemory = ⊤
+
+-- the status of a call of a rehearsal: the session's, unless its output failed
+abbrev pub StatusSo : ℕ → ℕ → ℕ → ℕ → Type 0
+StatusSo outs outs' ended status = (status ≡ ended) ⊎ ((status ≡ 4) × Rose outs outs')
+
+-- the words spell a job whose input isn't read yet
+abbrev pub IsUnbuiltJob : Option Files → Option Job → Type 0
+IsUnbuiltJob m None = ⊥
+IsUnbuiltJob m (Some (job.Rehearse found)) = IsUnbuilt m found

@@ -46,7 +46,7 @@ pub struct Summary {
     /// How many of the replies refuse their line.
     pub refused: u32,
     /// How many roots aren't retired.
-    pub roots: u32,
+    pub roots: u64,
     /// The status that the call answers, where the output doesn't fail.
     pub status: u8,
 }
@@ -85,7 +85,7 @@ fn put_summary<K: Sink>(page: &mut Page, out: &mut K, summary: &Summary)
     page.put_number(out, b",\"lines\":", summary.lines as u64);
     page.put_number(out, b",\"records\":", summary.records);
     page.put_number(out, b",\"refused\":", summary.refused as u64);
-    page.put_number(out, b",\"roots\":", summary.roots as u64);
+    page.put_number(out, b",\"roots\":", summary.roots);
     page.put_number(out, b",\"status\":", summary.status as u64);
     page.put(out, b"}\n");
 }

@@ -1,0 +1,40 @@
+//! The program's call.
+
+ghost use Rattle.std.specs.Prelude.{◌≡◌, ◌≤◌, ◌⊎◌, Some, None};
+ghost use Rattle.pcg_base.specs.Causes.{Rose};
+ghost use Rattle.pcg_words.specs.Words.{job_of};
+ghost use Rattle.pcg_serve.specs.Causes.{IsUnbuiltJob};
+
+use crate::rehearsal::{run_rehearse, stopped};
+use crate::stops::Stop;
+use pcg_base::{Clock, Gate, Place, Sink};
+use pcg_words::{Job, WordsError, read_words};
+use std::alloc::Global;
+
+/// Does the job that the words of the command line spell, and answers the status. It writes what
+/// [`run_rehearse`] writes, or the fault line of wrong words; the status is 1 exactly where the words
+/// spell no job. It asks neither the clock nor the gate yet.
+pub fn run<P: Place, C: Clock + Sync, G: Gate + Sync, K: Sink>(
+    alloc: Global,
+    words: &[Vec<u8>],
+    place: &mut P,
+    _: &C,
+    _: &G,
+    out: &mut K,
+) -> u8
+    ensures known { (result ≡ 0) ⊎ (result ≡ 1) ⊎ (result ≡ 2) ⊎ (result ≡ 4) ⊎ (result ≡ 5) ⊎ (result ≡ 8) }
+    ensures bad_words { result ≡ 1 → job_of words.now ≡ None }
+    ensures no_job { job_of words.now ≡ None → (result ≡ 1) ⊎ (result ≡ 5) }
+    ensures read { result ≡ 2 → Rose (P.read_faults place.old) (P.read_faults place.new) }
+    ensures write { result ≡ 4 → Rose (P.write_faults place.old) (P.write_faults place.new) ⊎ Rose (K.faults out.old) (K.faults out.new) }
+    ensures not_built { result ≡ 8 → IsUnbuiltJob (P.files place.old) (job_of words.now) }
+    ensures reads { P.read_faults place.old ≤ P.read_faults place.new }
+    ensures writes { P.write_faults place.old ≤ P.write_faults place.new }
+    ensures later { K.faults out.old ≤ K.faults out.new }
+{
+    match read_words(alloc, words) {
+        Ok(Job::Rehearse(job)) => run_rehearse(alloc, &job, place, out),
+        Err(WordsError::BadWords) => stopped(Stop::BadWords, out),
+        Err(WordsError::NoMemory) => stopped(Stop::NoMemory, out),
+    }
+}

@@ -1,0 +1,163 @@
+//! A rehearsal: the clients' requests, answered on one thread.
+
+ghost use Rattle.std.specs.Prelude.{◌≡◌, ◌≤◌, ◌<◌, ◌⊎◌, ◌∷◌, ◌++◌, [], IfOk, IfErr, IfSome, IfNone, OnOk, OnErr, false, true, length, vec_len, vec_capacity};
+ghost use Rattle.std.specs.Io.KnownBytes.{Appends};
+ghost use Rattle.pcg_base.specs.Causes.{HasCause, Rose};
+ghost use Rattle.pcg_base.specs.Told.{AppendsFront};
+ghost use Rattle.pcg_words.specs.Job.{IsJob};
+ghost use Rattle.request_lines.specs.Texts.{entry_text};
+ghost use Rattle.pcg_serve.specs.Causes.{EndsSo, IsUnbuilt, StatusSo, StopCause, has_one_client};
+ghost use Rattle.pcg_serve.specs.Ingests.{IsIngest};
+ghost use Rattle.pcg_serve.specs.Statuses.{status_of};
+ghost use Rattle.pcg_serve.specs.Texts.{stop_text, summary_text};
+
+use crate::client::{Ended, run_client};
+use crate::ingest::Ingest;
+use crate::stops::{Stop, write_stop};
+use crate::summary::{ClientFault, Fault, Summary, write_summary};
+use crate::tables::read_tables;
+use pcg_base::{Failed, Place, Sink};
+use pcg_words::{Name, RehearseJob};
+use request_lines::write_entry;
+use std::alloc::Global;
+
+/// A rehearsal that came past its sessions.
+#[derive(Drop)]
+struct Rehearsed {
+    /// The base and its log.
+    ingest: Ingest,
+    /// What the call came to.
+    summary: Summary,
+}
+
+/// The only client's stem, where the job has one client and no schedule.
+fn only_client(job: &RehearseJob) -> Option<&Name>
+    ensures one { IfSome result (λ stem. job.now.stems ≡ stem.now ∷ []) }
+    ensures none { IfNone result (has_one_client job.now ≡ false) }
+{
+    if job.schedule.is_some() || job.stems.list.len() != 1 {
+        return None;
+    }
+    Some(&job.stems.list[0])
+}
+
+/// The status that a session's end gives.
+fn status_of(fault: Option<Fault>) -> u8
+    ensures done { fault ≡ None → result ≡ 0 }
+    ensures read { fault ≡ Some Fault.ReadFault → result ≡ 2 }
+    ensures write { fault ≡ Some Fault.WriteFault → result ≡ 4 }
+    ensures known { (fault ≡ None) ⊎ (fault ≡ Some Fault.ReadFault) ⊎ (fault ≡ Some Fault.WriteFault) }
+{
+    match fault {
+        None => 0,
+        Some(Fault::ReadFault) => 2,
+        Some(Fault::WriteFault) => 4,
+    }
+}
+
+/// Puts the only client's fault into a list with room for it.
+fn put_fault(mut faults: Vec<ClientFault>, fault: Option<Fault>) -> Vec<ClientFault>
+    requires { vec_len faults < vec_capacity faults }
+    ensures none { fault ≡ None → result.items ≡ faults.items }
+    ensures one { IfSome fault (λ f. result.items ≡ faults.items ++ (record { client = 1; fault = f }) ∷ []) }
+{
+    if let Some(fault) = fault {
+        let put = faults.push(ClientFault { client: 1, fault });
+        prove!(put.is_ok());
+    }
+    faults
+}
+
+/// Goes through the steps of a rehearsal up to the end of its sessions.
+fn rehearse<P: Place>(alloc: Global, job: &RehearseJob, place: &mut P) -> Result<Rehearsed, Stop>
+    requires { IsJob job.now }
+    ensures stop { IfErr result (λ stop. StopCause (P.files place.old) job.now (P.read_faults place.old) (P.read_faults place.new) (P.write_faults place.old) (P.write_faults place.new) stop) }
+    ensures status { IfOk result (λ r. EndsSo (P.read_faults place.old) (P.read_faults place.new) (P.write_faults place.old) (P.write_faults place.new) r.summary.status) }
+    ensures reads { P.read_faults place.old ≤ P.read_faults place.new }
+    ensures writes { P.write_faults place.old ≤ P.write_faults place.new }
+{
+    let Some(stem) = only_client(job) else {
+        return Err(Stop::NotBuilt);
+    };
+    let ingest = read_tables(alloc, job, place)?;
+    let Ok(faults) = Vec::with_capacity(alloc, 1) else {
+        return Err(Stop::NoMemory);
+    };
+    let ended = run_client(alloc, &ingest, stem, place)?;
+    let summary = Summary {
+        accepted: 0,
+        clients: 1,
+        entries: 1,
+        faults: put_fault(faults, ended.fault),
+        lines: ended.session.lines,
+        records: ingest.records,
+        refused: ended.session.refused,
+        roots: ingest.entry.made.list.len() as u64,
+        status: status_of(ended.fault),
+    };
+    Ok(Rehearsed { ingest, summary })
+}
+
+/// Writes the log and the summary.
+fn print<K: Sink>(done: &Rehearsed, out: &mut K) -> Result<(), Failed>
+    ensures ok { OnOk result (Appends (K.held out.old) (K.held out.new) (entry_text done.now.ingest.entry ++ summary_text done.now.summary)) }
+    ensures err { OnErr result (AppendsFront (K.held out.old) (K.held out.new) (entry_text done.now.ingest.entry ++ summary_text done.now.summary)) }
+    ensures cause { HasCause (K.faults out.old) (K.faults out.new) result }
+{
+    write_entry(&done.ingest.entry, out)?;
+    write_summary(&done.summary, out)?;
+    Ok(())
+}
+
+/// Writes the log and the summary, and answers the status.
+fn finish<K: Sink>(done: &Rehearsed, out: &mut K) -> u8
+    ensures status { StatusSo (K.faults out.old) (K.faults out.new) done.now.summary.status result }
+    ensures later { K.faults out.old ≤ K.faults out.new }
+{
+    let printed = print(done, out).is_ok();
+    if done.summary.status == 0 && !printed {
+        4
+    } else {
+        done.summary.status
+    }
+}
+
+/// Writes the fault line of a call that stopped before its sessions, and answers its status.
+pub fn stopped<K: Sink>(stop: Stop, out: &mut K) -> u8
+    ensures status { result ≡ status_of stop }
+    ensures line { AppendsFront (K.held out.old) (K.held out.new) (stop_text stop) }
+    ensures later { K.faults out.old ≤ K.faults out.new }
+{
+    let _ = write_stop(stop, out);
+    stop.status()
+}
+
+/// Answers the request streams of a rehearsal, and writes its log and summary to `out`, or one fault
+/// line where it stops before its sessions. The answer is the status:
+///
+/// - 0: done;
+/// - 2: a read or an opening for reading failed;
+/// - 4: a write or an opening for writing failed, or `out` did;
+/// - 5: memory ran out;
+/// - 8: the input is of a form that isn't taken yet: several clients or a schedule, tables that aren't in
+///   the plain form or spell no base, or a file of over 65,536 bytes.
+pub fn run_rehearse<P: Place, K: Sink>(
+    alloc: Global,
+    job: &RehearseJob,
+    place: &mut P,
+    out: &mut K,
+) -> u8
+    requires { IsJob job.now }
+    ensures known { (result ≡ 0) ⊎ (result ≡ 2) ⊎ (result ≡ 4) ⊎ (result ≡ 5) ⊎ (result ≡ 8) }
+    ensures read { result ≡ 2 → Rose (P.read_faults place.old) (P.read_faults place.new) }
+    ensures write { result ≡ 4 → Rose (P.write_faults place.old) (P.write_faults place.new) ⊎ Rose (K.faults out.old) (K.faults out.new) }
+    ensures not_built { result ≡ 8 → IsUnbuilt (P.files place.old) job.now }
+    ensures reads { P.read_faults place.old ≤ P.read_faults place.new }
+    ensures writes { P.write_faults place.old ≤ P.write_faults place.new }
+    ensures later { K.faults out.old ≤ K.faults out.new }
+{
+    match rehearse(alloc, job, place) {
+        Ok(done) => finish(&done, out),
+        Err(stop) => stopped(stop, out),
+    }
+}
