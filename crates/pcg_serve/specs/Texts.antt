@@ -44,8 +44,12 @@ abbrev pub client_fault_text : ClientFault → List ℕ
 client_fault_text f = array (decimal f.client ∷ quoted (fault_name f.fault) ∷ [])
 
 -- the last line of a call that came past its sessions
-unfoldable pub summary_text : Summary → List ℕ
-summary_text s =
-    line (member (codes "accepted") (decimal s.accepted) ∷ member (codes "clients") (decimal s.clients) ∷ member (codes "entries") (decimal s.entries)
-    ∷ member (codes "faults") (array (map client_fault_text s.faults.items)) ∷ member (codes "lines") (decimal s.lines) ∷ member (codes "records") (decimal s.records)
-    ∷ member (codes "refused") (decimal s.refused) ∷ member (codes "roots") (decimal s.roots) ∷ member (codes "status") (decimal s.status) ∷ [])
+unfoldable pub summary_line : ℕ → ℕ → ℕ → List ClientFault → ℕ → ℕ → ℕ → ℕ → ℕ → List ℕ
+summary_line accepted clients entries faults lines records refused roots status =
+    line
+    (member (codes "accepted") (decimal accepted) ∷ member (codes "clients") (decimal clients) ∷ member (codes "entries") (decimal entries)
+    ∷ member (codes "faults") (array (map client_fault_text faults)) ∷ member (codes "lines") (decimal lines) ∷ member (codes "records") (decimal records)
+    ∷ member (codes "refused") (decimal refused) ∷ member (codes "roots") (decimal roots) ∷ member (codes "status") (decimal status) ∷ [])
+
+abbrev pub summary_text : Summary → List ℕ
+summary_text s = summary_line s.accepted s.clients s.entries s.faults.items s.lines s.records s.refused s.roots s.status

@@ -4,6 +4,7 @@ ghost use Rattle.std.specs.Prelude.{◌≡◌, ◌≤◌, ◌⊎◌, Some, None}
 ghost use Rattle.pcg_base.specs.Causes.{Rose};
 ghost use Rattle.pcg_words.specs.Words.{job_of};
 ghost use Rattle.pcg_serve.specs.Causes.{IsUnbuiltJob};
+ghost use Rattle.pcg_serve.specs.Headline.{IsJobDone};
 
 use crate::rehearsal::{run_rehearse, stopped};
 use crate::stops::Stop;
@@ -22,6 +23,7 @@ pub fn run<P: Place, C: Clock + Sync, G: Gate + Sync, K: Sink>(
     _: &G,
     out: &mut K,
 ) -> u8
+    ensures done { result ≡ 0 → IsJobDone (job_of words.now) (P.files place.old) (P.files place.new) (K.held out.old) (K.held out.new) }
     ensures known { (result ≡ 0) ⊎ (result ≡ 1) ⊎ (result ≡ 2) ⊎ (result ≡ 4) ⊎ (result ≡ 5) ⊎ (result ≡ 8) }
     ensures bad_words { result ≡ 1 → job_of words.now ≡ None }
     ensures no_job { job_of words.now ≡ None → (result ≡ 1) ⊎ (result ≡ 5) }

@@ -1,11 +1,12 @@
 //! The only client: its requests are opened, read, answered and kept back.
 
-ghost use Rattle.std.specs.Prelude.{◌≡◌, ◌≢◌, ◌≤◌, ◌⊎◌, ℕ, List, Some, None, IfOk, IfErr, IsErrOf, true, IsTrue};
+ghost use Rattle.std.specs.Prelude.{◌≡◌, ◌≢◌, ◌≤◌, ◌⊎◌, ℕ, List, Some, None, IfOk, IfErr, IsErrOf, false, true, IsTrue};
 ghost use Rattle.std.specs.FinMap.{get};
 ghost use Rattle.pcg_base.specs.Causes.{Rose};
 ghost use Rattle.pcg_base.specs.Told.{IsLonger, KeepsFiles};
 ghost use Rattle.pcg_words.specs.Job.{answer_file, request_file};
 ghost use Rattle.pcg_serve.specs.Causes.{LongAt, StopsAt};
+ghost use Rattle.pcg_serve.specs.Headline.{ClientDoneAt, IsWhole};
 ghost use Rattle.pcg_serve.specs.Ingests.{IsIngest};
 
 use crate::ingest::Ingest;
@@ -32,6 +33,7 @@ pub struct Ended {
 /// How a session ended whose stream may have broken off.
 fn end_of(session: Session, broken: bool) -> Ended
     ensures session { result.session ≡ session }
+    ensures none { result.fault ≡ None → (session.failed ≡ false) × (broken ≡ false) }
     ensures read { result.fault ≡ Some Fault.ReadFault → IsTrue broken }
     ensures write { result.fault ≡ Some Fault.WriteFault → IsTrue session.failed }
 {
@@ -57,6 +59,7 @@ fn serve_stream<S: Source, K: Sink>(
     ensures write { IfOk result (λ e. e.fault ≡ Some Fault.WriteFault → Rose (K.faults sink.old) (K.faults sink.new)) }
     ensures kinds { IfErr result (λ stop. (stop ≡ Stop.NotBuilt) ⊎ (stop ≡ Stop.NoMemory)) }
     ensures long { IsErrOf result Stop.NotBuilt → IsLonger (S.left source.old) LIMIT }
+    ensures whole { IfOk result (λ e. e.fault ≡ None → IsWhole ingest.now (S.left source.old) (K.held sink.old) (K.held sink.new) e.session) }
     ensures reads { S.faults source.old ≤ S.faults source.new }
     ensures writes { K.faults sink.old ≤ K.faults sink.new }
 {
@@ -85,6 +88,7 @@ pub fn run_client<P: Place>(
 ) -> Result<Ended, Stop>
     requires { IsIngest ingest.now }
     ensures stop { IfErr result (λ stop. StopsAt (P.files place.old) stem.now (P.read_faults place.old) (P.read_faults place.new) (P.write_faults place.old) (P.write_faults place.new) stop) }
+    ensures whole { IfOk result (λ e. e.fault ≡ None → ClientDoneAt ingest.now stem.now (P.files place.old) (P.files place.new) e.session) }
     ensures read { IfOk result (λ e. e.fault ≡ Some Fault.ReadFault → Rose (P.read_faults place.old) (P.read_faults place.new)) }
     ensures write { IfOk result (λ e. e.fault ≡ Some Fault.WriteFault → Rose (P.write_faults place.old) (P.write_faults place.new)) }
     ensures reads { P.read_faults place.old ≤ P.read_faults place.new }

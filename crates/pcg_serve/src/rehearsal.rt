@@ -7,6 +7,7 @@ ghost use Rattle.pcg_base.specs.Told.{AppendsFront};
 ghost use Rattle.pcg_words.specs.Job.{IsJob};
 ghost use Rattle.request_lines.specs.Texts.{entry_text};
 ghost use Rattle.pcg_serve.specs.Causes.{EndsSo, IsUnbuilt, StatusSo, StopCause, has_one_client};
+ghost use Rattle.pcg_serve.specs.Headline.{DoneAt, IsDone};
 ghost use Rattle.pcg_serve.specs.Ingests.{IsIngest};
 ghost use Rattle.pcg_serve.specs.Statuses.{status_of};
 ghost use Rattle.pcg_serve.specs.Texts.{stop_text, summary_text};
@@ -47,6 +48,7 @@ fn status_of(fault: Option<Fault>) -> u8
     ensures read { fault ≡ Some Fault.ReadFault → result ≡ 2 }
     ensures write { fault ≡ Some Fault.WriteFault → result ≡ 4 }
     ensures known { (fault ≡ None) ⊎ (fault ≡ Some Fault.ReadFault) ⊎ (fault ≡ Some Fault.WriteFault) }
+    ensures zero { result ≡ 0 → fault ≡ None }
 {
     match fault {
         None => 0,
@@ -68,10 +70,40 @@ fn put_fault(mut faults: Vec<ClientFault>, fault: Option<Fault>) -> Vec<ClientFa
     faults
 }
 
+/// What a call came to that came past its only session.
+fn summary_of(ingest: &Ingest, ended: Ended, faults: Vec<ClientFault>) -> Summary
+    requires room { vec_len faults < vec_capacity faults }
+    requires empty { faults.items ≡ [] }
+    ensures one { (result.accepted ≡ 0) × (result.clients ≡ 1) × (result.entries ≡ 1) }
+    ensures faults { ended.fault ≡ None → result.faults.items ≡ [] }
+    ensures lines { result.lines ≡ ended.session.lines }
+    ensures refused { result.refused ≡ ended.session.refused }
+    ensures records { result.records ≡ ingest.now.records }
+    ensures roots { result.roots ≡ length ingest.now.entry.made }
+    ensures read { ended.fault ≡ Some Fault.ReadFault → result.status ≡ 2 }
+    ensures write { ended.fault ≡ Some Fault.WriteFault → result.status ≡ 4 }
+    ensures done { ended.fault ≡ None → result.status ≡ 0 }
+    ensures known { (ended.fault ≡ None) ⊎ (ended.fault ≡ Some Fault.ReadFault) ⊎ (ended.fault ≡ Some Fault.WriteFault) }
+    ensures zero { result.status ≡ 0 → ended.fault ≡ None }
+{
+    Summary {
+        accepted: 0,
+        clients: 1,
+        entries: 1,
+        faults: put_fault(faults, ended.fault),
+        lines: ended.session.lines,
+        records: ingest.records,
+        refused: ended.session.refused,
+        roots: ingest.entry.made.list.len() as u64,
+        status: status_of(ended.fault),
+    }
+}
+
 /// Goes through the steps of a rehearsal up to the end of its sessions.
 fn rehearse<P: Place>(alloc: Global, job: &RehearseJob, place: &mut P) -> Result<Rehearsed, Stop>
     requires { IsJob job.now }
     ensures stop { IfErr result (λ stop. StopCause (P.files place.old) job.now (P.read_faults place.old) (P.read_faults place.new) (P.write_faults place.old) (P.write_faults place.new) stop) }
+    ensures done { IfOk result (λ r. r.summary.status ≡ 0 → DoneAt job.now (P.files place.old) (P.files place.new) (entry_text r.ingest.entry ++ summary_text r.summary)) }
     ensures status { IfOk result (λ r. EndsSo (P.read_faults place.old) (P.read_faults place.new) (P.write_faults place.old) (P.write_faults place.new) r.summary.status) }
     ensures reads { P.read_faults place.old ≤ P.read_faults place.new }
     ensures writes { P.write_faults place.old ≤ P.write_faults place.new }
@@ -84,17 +116,7 @@ fn rehearse<P: Place>(alloc: Global, job: &RehearseJob, place: &mut P) -> Result
         return Err(Stop::NoMemory);
     };
     let ended = run_client(alloc, &ingest, stem, place)?;
-    let summary = Summary {
-        accepted: 0,
-        clients: 1,
-        entries: 1,
-        faults: put_fault(faults, ended.fault),
-        lines: ended.session.lines,
-        records: ingest.records,
-        refused: ended.session.refused,
-        roots: ingest.entry.made.list.len() as u64,
-        status: status_of(ended.fault),
-    };
+    let summary = summary_of(&ingest, ended, faults);
     Ok(Rehearsed { ingest, summary })
 }
 
@@ -112,6 +134,7 @@ fn print<K: Sink>(done: &Rehearsed, out: &mut K) -> Result<(), Failed>
 /// Writes the log and the summary, and answers the status.
 fn finish<K: Sink>(done: &Rehearsed, out: &mut K) -> u8
     ensures status { StatusSo (K.faults out.old) (K.faults out.new) done.now.summary.status result }
+    ensures printed { result ≡ 0 → (done.now.summary.status ≡ 0) × Appends (K.held out.old) (K.held out.new) (entry_text done.now.ingest.entry ++ summary_text done.now.summary) }
     ensures later { K.faults out.old ≤ K.faults out.new }
 {
     let printed = print(done, out).is_ok();
@@ -148,6 +171,7 @@ pub fn run_rehearse<P: Place, K: Sink>(
     out: &mut K,
 ) -> u8
     requires { IsJob job.now }
+    ensures done { result ≡ 0 → IsDone job.now (P.files place.old) (P.files place.new) (K.held out.old) (K.held out.new) }
     ensures known { (result ≡ 0) ⊎ (result ≡ 2) ⊎ (result ≡ 4) ⊎ (result ≡ 5) ⊎ (result ≡ 8) }
     ensures read { result ≡ 2 → Rose (P.read_faults place.old) (P.read_faults place.new) }
     ensures write { result ≡ 4 → Rose (P.write_faults place.old) (P.write_faults place.new) ⊎ Rose (K.faults out.old) (K.faults out.new) }

@@ -73,7 +73,7 @@ impl Written for ClientFault {
 }
 
 /// Puts a summary.
-#[tactic(auto, unfolding(crate::specs::Texts::summary_text))]
+#[tactic(auto, unfolding(crate::specs::Texts::summary_line))]
 fn put_summary<K: Sink>(page: &mut Page, out: &mut K, summary: &Summary)
     ensures { Puts (K.held out.old) (K.held out.new) (K.faults out.old) (K.faults out.new) page.old page.new (summary_text summary.now) }
 {

@@ -1,4 +1,6 @@
-use Rattle.std.proofs.Common.{rules}
+use Rattle.std.proofs.Common.{◌≡◌, List, ℕ, subst, rules}
+use Rattle.pcg_base.specs.Told.{PutsHeld}
+use Rattle.pcg_serve.proofs.ClientLemmas.{done_so}
 use Rattle.pcg_serve.proofs.Stopping.{stops_so}
 use Rattle.pcg_serve.proofs.client.run_client.Goals as goal
 
@@ -6,3 +8,13 @@ pub returns-clause-stop : goal.returns-clause-stop
 returns-clause-stop g c =
     stops_so (g.P.Place.files c.args.place.now) c.args.stem.now c.as_str.result.now (g.P.In.Source.left c.in-Ok-source_of.source) _ _ _ _ c.serve_stream-found.result
     (search rules) c.in-Ok-source_of.ensures.bytes c.serve_stream-found.ensures.kinds c.serve_stream-found.ensures.long
+
+pub returns-clause-whole : goal.returns-clause-whole
+returns-clause-whole g c =
+    let N : List ℕ → Type 0 = λ n. PutsHeld (g.P.Place.files c.keep_in-2.new.self) (g.P.Place.files c.keep_out.new.self) n (g.P.Out.Sink.held c.serve_stream-found.new.sink) in
+    let one : c.as_str-4.result.now ≡ c.as_str-2.result.now = search rules in
+    done_so c.args.ingest.now c.args.stem.now c.as_str.result.now c.as_str-2.result.now (g.P.Place.files c.args.place.now) (g.P.Place.files c.source_of.new.self)
+    (g.P.Place.files c.sink_of.new.self) (g.P.Place.files c.keep_in-2.new.self) (g.P.Place.files c.keep_out.new.self)
+    (g.P.In.Source.left c.in-Ok-source_of.source) (g.P.Out.Sink.held c.in-Ok-sink_of.sink) (g.P.Out.Sink.held c.serve_stream-found.new.sink) c.serve_stream-found.result
+    (search rules) (search rules) c.source_of.ensures.files c.in-Ok-source_of.ensures.bytes (search rules) c.in-Ok-sink_of.ensures.empty c.keep_in-2.ensures.files (subst N one c.keep_out.ensures.bytes)
+    c.serve_stream-found.ensures.whole

@@ -1,11 +1,11 @@
 use Rattle.std.proofs.Common.{sym, ap, map}
 use Rattle.request_lines.specs.Json.{array}
 use Rattle.request_lines.proofs.Putting.{puts_then, puts_same}
-use Rattle.pcg_serve.specs.Texts.{client_fault_text, summary_text}
+use Rattle.pcg_serve.specs.Texts.{client_fault_text, summary_line}
 use Rattle.pcg_serve.proofs.summary.put_summary.Goals as goal
 
 pub returns : goal.returns
-unfolding summary_text
+unfolding summary_line
 returns g c =
     let faults = puts_same (ap (λ w. array (map client_fault_text w)) (sym c.as_slice.ensures.value)) c.put_list.ensures in
     puts_then c.put_number.ensures (puts_then c.put_number-2.ensures (puts_then c.put_number-3.ensures (puts_then c.put.ensures (puts_then faults

@@ -1,0 +1,105 @@
+-- One history behind what was printed and answered.
+use Rattle.std.proofs.Common.{◌≡◌, ◌≤◌, ◌<◌, ◌^◌, ℕ, ◌+◌, ◌-◌, Bool, true, false, List, [], ◌∷◌, ◌++◌, length, cond, Option, Some, None, refl, sym, ◌∙◌, ap, subst, arith, nat_le, add-zero, count_by}
+use Rattle.std.specs.Prelude.{⊤, ◌↔◌, IsTrue, Result, Ok, Err, IfOk}
+use Rattle.std.proofs.lemmas.Bool.{le-leb}
+use Rattle.std.specs.Io.KnownBytes.{Appends}
+use Rattle.graph_model.specs.Lists.{has}
+use Rattle.graph_model.specs.Components.{Joined as JoinedBy}
+use Rattle.op_model.specs.declared.Dataset.{Dataset}
+use Rattle.op_model.specs.declared.Base.{Base}
+use Rattle.op_model.specs.declared.Entry.{Entry}
+use Rattle.op_model.specs.declared.Reply.{Reply}
+use Rattle.op_model.specs.Edges.{linked}
+use Rattle.op_model.specs.Labels.{edges, root}
+use Rattle.op_model.specs.Operations.{first_entry}
+use Rattle.op_model.specs.Records.{records}
+use Rattle.op_model.specs.Refusals.{first_at, last_at, prefix_at}
+use Rattle.op_model.specs.Legal.{Legal}
+use Rattle.op_model.proofs.RootLemmas.{roots_joined}
+use Rattle.plain_hierarchy.proofs.Fitting.{legal_small}
+use Rattle.request_lines.specs.Texts.{entry_text}
+use Rattle.pcg_base.specs.Told.{Files, KeepsFiles}
+use Rattle.pcg_words.specs.declared.job.RehearseJob.{RehearseJob}
+use Rattle.pcg_words.specs.declared.job.Job.{Job}
+use Rattle.pcg_words.specs.declared.job.Job.TheVariants as job
+use Rattle.pcg_serve.specs.declared.ingest.Ingest.{Ingest}
+use Rattle.pcg_serve.specs.declared.session.Session.{Session}
+use Rattle.pcg_serve.specs.declared.summary.Summary.{Summary}
+use Rattle.pcg_serve.specs.Ingests.{IsIngest, log_of}
+use Rattle.pcg_serve.specs.Jobs.{HasBase, dataset_of}
+use Rattle.pcg_serve.specs.Sessions.{asked_of, refuses, texts}
+use Rattle.pcg_serve.specs.Texts.{summary_line, summary_text}
+use Rattle.pcg_serve.specs.Headline.{log_text, live_roots, reply_count, refusal_count, answered, AllServed, RootsAreJoined, History, Done, DoneAt, IsDone, IsJobDone, ClientDone, ClientDoneAt}
+
+legal_of : (i : Ingest) → IsIngest i → Legal i.dataset i.base (log_of i)
+legal_of i ok =
+    let P : Entry → Type 0 = λ e. Legal i.dataset i.base (e ∷ []) in
+    subst P (sym ok.entry) (legal_small i.dataset i.base i.entry.at ok.dataset ok.small.0 ok.time)
+
+-- a log of one entry has one prefix
+prefix_of : (e : Entry) (t : ℕ) → first_at (e ∷ []) ≤ t → prefix_at (e ∷ []) t ≡ e ∷ []
+unfolding first_at prefix_at
+prefix_of e t h = ap (λ b. cond b (e ∷ []) []) (le-leb e.at t h)
+
+roots_of : (i : Ingest) → IsIngest i → RootsAreJoined i.dataset i.base (log_of i)
+roots_of i ok = λ t u v early late hu hv.
+    let P : List Entry → Type 0 = λ log. (root i.dataset i.base log u ≡ root i.dataset i.base log v) ↔ JoinedBy (linked (edges i.dataset i.base log)) i.base.supervoxels u v in
+    subst P (sym (prefix_of i.entry t early)) (roots_joined i.dataset i.base ok.dataset ok.base (log_of i) u v (legal_of i ok) hu hv)
+
+-- what is printed of a log of one entry and one client's replies
+text_of : (d : Dataset) (b : Base) (e : Entry) (stem : List ℕ) (rs : List Reply) (s : Summary) → s.accepted ≡ 0 → s.clients ≡ 1 → s.entries ≡ 1 → s.faults.items ≡ [] → s.lines ≡ length rs
+    → s.records ≡ records d b (e ∷ []) → s.refused ≡ count_by refuses rs → s.roots ≡ length e.made → s.status ≡ 0
+    → entry_text e ++ summary_text s ≡ log_text (e ∷ [])
+    ++ summary_line (length (e ∷ []) - 1) (length (stem ∷ [])) (length (e ∷ [])) [] (reply_count (rs ∷ [])) (records d b (e ∷ [])) (refusal_count (rs ∷ [])) (length (live_roots (e ∷ []))) 0
+unfolding log_text live_roots reply_count refusal_count
+text_of d b e stem rs s h0 h1 h2 h3 h4 h5 h6 h7 h8 =
+    ap (λ t. entry_text e ++ t)
+    (ap (λ n. summary_line n s.clients s.entries s.faults.items s.lines s.records s.refused s.roots s.status) h0
+    ∙ ap (λ n. summary_line 0 n s.entries s.faults.items s.lines s.records s.refused s.roots s.status) h1
+    ∙ ap (λ n. summary_line 0 1 n s.faults.items s.lines s.records s.refused s.roots s.status) h2
+    ∙ ap (λ fs. summary_line 0 1 1 fs s.lines s.records s.refused s.roots s.status) h3
+    ∙ ap (λ n. summary_line 0 1 1 [] n s.records s.refused s.roots s.status) (h4 ∙ sym (add-zero (length rs)))
+    ∙ ap (λ n. summary_line 0 1 1 [] (length rs + 0) n s.refused s.roots s.status) h5
+    ∙ ap (λ n. summary_line 0 1 1 [] (length rs + 0) (records d b (e ∷ [])) n s.roots s.status) (h6 ∙ sym (add-zero (count_by refuses rs)))
+    ∙ ap (λ n. summary_line 0 1 1 [] (length rs + 0) (records d b (e ∷ [])) (count_by refuses rs + 0) n s.status) h7
+    ∙ ap (λ n. summary_line 0 1 1 [] (length rs + 0) (records d b (e ∷ [])) (count_by refuses rs + 0) (length e.made) n) h8)
+
+history_of : (i : Ingest) (stem : List ℕ) (before after : Files) (s : Session) (summary : Summary) → IsIngest i → ClientDone i stem before after s
+    → summary.accepted ≡ 0 → summary.clients ≡ 1 → summary.entries ≡ 1 → summary.faults.items ≡ [] → summary.lines ≡ s.lines → summary.records ≡ i.records
+    → summary.refused ≡ s.refused → summary.roots ≡ length i.entry.made → summary.status ≡ 0
+    → History i.dataset i.base before after (stem ∷ []) (entry_text i.entry ++ summary_text summary)
+unfolding answered
+history_of i stem before after s summary ok c h0 h1 h2 h3 h4 h5 h6 h7 h8 = record {
+  log = log_of i;
+  legal = legal_of i ok;
+  replies = c.written ∷ [];
+  served = (c.served, tt);
+  files = c.files;
+  roots = roots_of i ok;
+  text = text_of i.dataset i.base i.entry stem c.written summary h0 h1 h2 h3 (h4 ∙ c.count) (h5 ∙ ok.records) (h6 ∙ c.noes) h7 h8;
+}
+
+pub done_at : (job : RehearseJob) (i : Ingest) (stem : List ℕ) (f0 f1 f2 : Option Files) (s : Session) (summary : Summary) → IsIngest i → i.dataset ≡ dataset_of job
+    → HasBase f0 job i.base → KeepsFiles f0 f1 → ClientDoneAt i stem f1 f2 s → job.stems ≡ stem ∷ []
+    → summary.accepted ≡ 0 → summary.clients ≡ 1 → summary.entries ≡ 1 → summary.faults.items ≡ [] → summary.lines ≡ s.lines → summary.records ≡ i.records
+    → summary.refused ≡ s.refused → summary.roots ≡ length i.entry.made → summary.status ≡ 0
+    → DoneAt job f0 f2 (entry_text i.entry ++ summary_text summary)
+done_at job i stem None f1 f2 s summary ok made base kept c one h0 h1 h2 h3 h4 h5 h6 h7 h8 = tt
+done_at job i stem (Some m) f1 None s summary ok made base kept c one h0 h1 h2 h3 h4 h5 h6 h7 h8 =
+    let C : Option Files → Type 0 = λ f. ClientDoneAt i stem f None s in
+    absurd (subst C kept c)
+done_at job i stem (Some m) f1 (Some m') s summary ok made base kept c one h0 h1 h2 h3 h4 h5 h6 h7 h8 =
+    let C : Option Files → Type 0 = λ f. ClientDoneAt i stem f (Some m') s in
+    let S : List (List ℕ) → Type 0 = λ stems. History i.dataset i.base m m' stems (entry_text i.entry ++ summary_text summary) in
+    let D : Dataset → Type 0 = λ d. History d i.base m m' job.stems (entry_text i.entry ++ summary_text summary) in
+    (i.base, base, subst D made (subst S (sym one) (history_of i stem m m' s summary ok (subst C kept c) h0 h1 h2 h3 h4 h5 h6 h7 h8)))
+
+pub is_done : (job : RehearseJob) (before after : Option Files) (old new : Option (List ℕ)) (text : List ℕ) → Appends old new text → DoneAt job before after text → IsDone job before after old new
+is_done job before after None new text a h = tt
+is_done job before after (Some xs) None text a h = absurd a
+is_done job before after (Some xs) (Some ys) text a h = (text, a, h)
+
+pub job_done : (wanted : Option Job) (found : RehearseJob) (before after : Option Files) (old new : Option (List ℕ)) → wanted ≡ Some (job.Rehearse found) → IsDone found before after old new → IsJobDone wanted before after old new
+job_done wanted found before after old new e h =
+    let P : Option Job → Type 0 = λ w. IsJobDone w before after old new in
+    subst P (sym e) h

@@ -1,0 +1,82 @@
+-- Replies to lines, one by one, are a transcript.
+use Rattle.std.proofs.Common.{◌≡◌, ◌≤◌, ℕ, ◌+◌, Bool, true, false, List, [], ◌∷◌, ◌++◌, length, map, cond, Option, Some, None, refl, sym, ◌∙◌, ap, subst, arith, count_by}
+use Rattle.std.specs.Prelude.{⊤, option_to_list, is_some, reverse, ◌==◌}
+use Rattle.std.specs.List.{filter}
+use Rattle.std.specs.Io.KnownBytes.{Appends, Consumes, IsAtEnd}
+use Rattle.std.proofs.lemmas.List.{append-nil}
+use Rattle.op_model.specs.declared.Dataset.{Dataset}
+use Rattle.op_model.specs.declared.Base.{Base}
+use Rattle.op_model.specs.declared.Entry.{Entry}
+use Rattle.op_model.specs.declared.Reply.{Reply}
+use Rattle.op_model.specs.declared.Reply.TheVariants as reply
+use Rattle.op_model.specs.declared.Request.TheVariants as request
+use Rattle.op_model.specs.Operations.{first_entry}
+use Rattle.op_model.specs.Transcript.{Line, Asks, Faulty, Unbuilt, Transcript, WholeTranscript, entries_of}
+use Rattle.pcg_serve.specs.declared.ingest.Ingest.{Ingest}
+use Rattle.pcg_serve.specs.declared.session.Session.{Session}
+use Rattle.pcg_serve.specs.Ingests.{IsIngest, log_of}
+use Rattle.pcg_serve.specs.Sessions.{Answers, Serves, Did, Wrote, asked_of, texts, refuses}
+use Rattle.pcg_serve.specs.Headline.{IsWhole, TakesAll}
+
+-- one reply before a transcript
+transcribes_more : (d : Dataset) (b : Base) (e : Entry) (n : ℕ) (line : Line) (r : Reply) (lines : List Line) (rs : List Reply)
+    → Answers d b (e ∷ []) line r → Transcript d b (e ∷ []) 1 (n + 1) 1 [] lines rs → Transcript d b (e ∷ []) 1 n 1 [] (line ∷ lines) (r ∷ rs)
+transcribes_more d b e n line reply.NoMemory lines rs h t = t
+transcribes_more d b e n (Faulty error) r lines rs h t = (h.0, t)
+transcribes_more d b e n Unbuilt r lines rs h t = (h.0, t)
+transcribes_more d b e n (Asks (request.Read q)) r lines rs h t =
+    let one : h.0 ≡ 1 = omega (arith, h.1, h.3) in
+    let P : ℕ → Type 0 = λ k. Transcript d b (e ∷ []) 1 (n + 1) k [] lines rs in
+    (h.0, h.1, h.2, h.3, h.4, subst P (sym one) t)
+transcribes_more d b e n (Asks (request.Edit edit)) (reply.Refused refusal k) lines rs h t =
+    let one : k ≡ 1 = omega (arith, h.0, h.2) in
+    let P : ℕ → Type 0 = λ m. Transcript d b (e ∷ []) 1 (n + 1) m [] lines rs in
+    (h.0, h.1, h.2, h.3, subst P (sym one) t)
+transcribes_more d b e n (Asks (request.Edit edit)) r lines rs h t = absurd h
+
+transcribes : (d : Dataset) (b : Base) (e : Entry) (n : ℕ) (lines : List Line) (rs : List Reply) → Serves d b (e ∷ []) lines rs → Transcript d b (e ∷ []) 1 n 1 [] lines rs
+transcribes d b e n lines [] h = refl
+transcribes d b e n [] (r ∷ rs) h = absurd h
+transcribes d b e n (line ∷ lines) (r ∷ rs) h = transcribes_more d b e n line r lines rs h.0 (transcribes d b e (n + 1) lines rs h.1)
+
+-- the entry of the ingest is of no client
+no_own : (d : Dataset) (b : Base) (e : Entry) → e.client ≡ 0 → entries_of d b (e ∷ []) 1 ≡ []
+unfolding entries_of
+no_own d b e z = ap (λ c. reverse (cond (c == 1) (e ∷ []) [])) z
+
+pub client_of : (d : Dataset) (b : Base) (at : ℕ) → (first_entry d b at).client ≡ 0
+unfolding first_entry
+client_of d b at = refl
+
+pub takes_all : (old new : Option (List ℕ)) (bytes : List ℕ) → Consumes old new bytes → IsAtEnd new → TakesAll old bytes
+takes_all None new bytes h e = tt
+takes_all (Some xs) None bytes h e = absurd h
+takes_all (Some xs) (Some ys) bytes h e = h ∙ ap (λ zs. bytes ++ zs) e ∙ append-nil bytes
+
+-- a session without a fault wrote each reply
+written_all : (held held' : Option (List ℕ)) (written : List Reply) (last : Option Reply) → last ≡ None → Wrote held held' written last → Appends held held' (texts written)
+written_all held held' written None e h = h
+written_all held held' written (Some r) e h = absurd (cc)
+
+no_last : (o : Option Reply) → is_some o ≡ false → o ≡ None
+no_last None e = refl
+no_last (Some r) e = absurd (cc)
+
+pub is_whole : (i : Ingest) (left held held' : Option (List ℕ)) (stream : List ℕ) (s : Session) → IsIngest i → TakesAll left stream
+    → Did i.dataset i.base (log_of i) (asked_of stream) held held' s → s.failed ≡ false → IsWhole i left held held' s
+is_whole i left held held' stream s ok taken did f =
+    let none : did.last ≡ None = no_last did.last (sym did.failed ∙ f) in
+    let all : did.written ++ option_to_list did.last ≡ did.written = ap (λ o. did.written ++ option_to_list o) none ∙ append-nil did.written in
+    let S : List Reply → Type 0 = λ rs. Serves i.dataset i.base (log_of i) (asked_of stream) rs in
+    let own : List Entry → Type 0 = λ es. Transcript i.dataset i.base (log_of i) 1 1 1 es (asked_of stream) did.written in
+    record {
+      stream = stream;
+      taken = taken;
+      written = did.written;
+      transcript = subst own (sym (no_own i.dataset i.base i.entry (ap (λ (e : Entry). e.client) ok.entry ∙ client_of i.dataset i.base i.entry.at)))
+          (transcribes i.dataset i.base i.entry 1 (asked_of stream) did.written (subst S all did.serves));
+      each = did.whole none;
+      wrote = written_all held held' did.written did.last none did.wrote;
+      count = did.count;
+      noes = did.refused;
+    }

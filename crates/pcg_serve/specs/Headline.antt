@@ -1,0 +1,134 @@
+-- What a call promises that was done: its output and answer files are those of one legal history.
+use Rattle.std.specs.Prelude.{◌≡◌, ◌≤◌, ℕ, ◌+◌, ◌-◌, ◌↔◌, ⊤, not, IsTrue, List, [], ◌∷◌, ◌++◌, length, count_by, Option, Some, None}
+use Rattle.std.specs.List.{filter}
+use Rattle.std.specs.FinMap.{get, insert}
+use Rattle.graph_model.specs.Lists.{has}
+use Rattle.graph_model.specs.Components.{Joined as JoinedBy}
+use Rattle.op_model.specs.declared.Dataset.{Dataset}
+use Rattle.op_model.specs.declared.Base.{Base}
+use Rattle.op_model.specs.declared.Entry.{Entry}
+use Rattle.op_model.specs.declared.Reply.{Reply}
+use Rattle.op_model.specs.Edges.{linked}
+use Rattle.op_model.specs.Labels.{edges, root}
+use Rattle.op_model.specs.Records.{records}
+use Rattle.op_model.specs.Refusals.{first_at, last_at, prefix_at}
+use Rattle.op_model.specs.Legal.{Legal}
+use Rattle.op_model.specs.Transcript.{WholeTranscript}
+use Rattle.request_lines.specs.Texts.{entry_text}
+use Rattle.pcg_base.specs.Told.{Files}
+use Rattle.pcg_words.specs.declared.job.RehearseJob.{RehearseJob}
+use Rattle.pcg_words.specs.declared.job.Job.{Job}
+use Rattle.pcg_words.specs.declared.job.Job.TheVariants as job
+use Rattle.pcg_words.specs.Job.{request_file, answer_file}
+use Rattle.std.specs.Io.KnownBytes.{Appends}
+use Rattle.pcg_serve.specs.declared.ingest.Ingest.{Ingest}
+use Rattle.pcg_serve.specs.declared.session.Session.{Session}
+use Rattle.pcg_serve.specs.Ingests.{log_of}
+use Rattle.pcg_serve.specs.Jobs.{HasBase, dataset_of}
+use Rattle.pcg_serve.specs.Sessions.{asked_of, refuses, texts}
+use Rattle.pcg_serve.specs.Texts.{summary_line}
+
+-- the lines of a log, its oldest entry first
+unfoldable pub log_text : List Entry → List ℕ
+log_text [] = []
+log_text (e ∷ log) = log_text log ++ entry_text e
+
+-- the roots that entries made and none retired
+unfoldable pub live_roots : List Entry → List ℕ
+live_roots [] = []
+live_roots (e ∷ log) = filter (λ r. not (has e.retired r)) (live_roots log) ++ e.made
+
+-- how many replies all clients got, and how many of them refuse their line
+unfoldable pub reply_count : List (List Reply) → ℕ
+reply_count [] = 0
+reply_count (rs ∷ more) = length rs + reply_count more
+
+unfoldable pub refusal_count : List (List Reply) → ℕ
+refusal_count [] = 0
+refusal_count (rs ∷ more) = count_by refuses rs + refusal_count more
+
+-- the files after each client's answers were put, the texts of its replies
+unfoldable pub answered : Files → List (List ℕ) → List (List Reply) → Files
+answered files [] replies = files
+answered files (stem ∷ stems) [] = files
+answered files (stem ∷ stems) (rs ∷ more) = answered (insert files (answer_file stem) (texts rs)) stems more
+
+module _ (d : Dataset) (b : Base) where
+  -- a client's requests are these bytes of the files, and each of its lines has a reply that the history allows
+  abbrev pub Served : Files → List Entry → ℕ → List ℕ → List Reply → Type 0
+  Served files log client stem rs =
+      (stream : List ℕ) × (get files (request_file stem) ≡ Some stream) × WholeTranscript d b log client (asked_of stream) rs × (length rs ≡ length (asked_of stream))
+
+  -- the same of each client from this number on
+  abbrev pub AllServed : Files → List Entry → ℕ → List (List ℕ) → List (List Reply) → Type 0
+  AllServed files log client [] [] = ⊤
+  AllServed files log client (stem ∷ stems) (rs ∷ more) = Served files log client stem rs × AllServed files log (client + 1) stems more
+  AllServed files log client stems replies = ⊥
+
+  -- At each published time two supervoxels share a root just where a walk of active edges joins them.
+  abbrev pub RootsAreJoined : List Entry → Type 0
+  RootsAreJoined log =
+      (t u v : ℕ) → first_at log ≤ t → t ≤ last_at log → IsTrue (has b.supervoxels u) → IsTrue (has b.supervoxels v)
+      → (root d b (prefix_at log t) u ≡ root d b (prefix_at log t) v) ↔ JoinedBy (linked (edges d b (prefix_at log t))) b.supervoxels u v
+
+  -- One legal log stands behind all that was printed and answered.
+  pub record History (before after : Files) (stems : List (List ℕ)) (printed : List ℕ) : Type 0 where
+    pub log : List Entry
+    pub legal : Legal d b log
+    pub replies : List (List Reply)
+    pub served : AllServed before log 1 stems replies
+    pub files : after ≡ answered before stems replies
+    pub roots : RootsAreJoined log
+    pub text : printed ≡ log_text log
+        ++ summary_line (length log - 1) (length stems) (length log) [] (reply_count replies) (records d b log) (refusal_count replies) (length (live_roots log)) 0
+
+-- The tables spell a base, and one legal history over it stands behind what was printed and answered.
+abbrev pub Done : RehearseJob → Files → Files → List ℕ → Type 0
+Done job before after printed = (b : Base) × HasBase (Some before) job b × History (dataset_of job) b before after job.stems printed
+
+-- where the place tells its bytes
+abbrev pub DoneAt : RehearseJob → Option Files → Option Files → List ℕ → Type 0
+DoneAt job None after printed = ⊤
+DoneAt job (Some before) None printed = ⊥
+DoneAt job (Some before) (Some after) printed = Done job before after printed
+
+-- where the output tells its bytes too, it gained just what was printed
+abbrev pub IsDone : RehearseJob → Option Files → Option Files → Option (List ℕ) → Option (List ℕ) → Type 0
+IsDone job before after None out = ⊤
+IsDone job before after (Some old) None = ⊥
+IsDone job before after (Some old) (Some new) = (printed : List ℕ) × (new ≡ old ++ printed) × DoneAt job before after printed
+
+-- the same of the job that words spell
+abbrev pub IsJobDone : Option Job → Option Files → Option Files → Option (List ℕ) → Option (List ℕ) → Type 0
+IsJobDone None before after old new = ⊥
+IsJobDone (Some (job.Rehearse found)) before after old new = IsDone found before after old new
+
+-- where a source tells its bytes, these are all that it has
+abbrev pub TakesAll : Option (List ℕ) → List ℕ → Type 0
+TakesAll None stream = ⊤
+TakesAll (Some left) stream = left ≡ stream
+
+-- A session that met no fault: each line of the stream has its reply, and the sink got their texts.
+pub record IsWhole (i : Ingest) (left held held' : Option (List ℕ)) (s : Session) : Type 0 where
+  pub stream : List ℕ
+  pub taken : TakesAll left stream
+  pub written : List Reply
+  pub transcript : WholeTranscript i.dataset i.base (log_of i) 1 (asked_of stream) written
+  pub each : length written ≡ length (asked_of stream)
+  pub wrote : Appends held held' (texts written)
+  pub count : s.lines ≡ length written
+  pub noes : s.refused ≡ count_by refuses written
+
+-- The only client was served, and its answers are the texts of its replies.
+pub record ClientDone (i : Ingest) (stem : List ℕ) (before after : Files) (s : Session) : Type 0 where
+  pub written : List Reply
+  pub served : Served i.dataset i.base before (log_of i) 1 stem written
+  pub files : after ≡ insert before (answer_file stem) (texts written)
+  pub count : s.lines ≡ length written
+  pub noes : s.refused ≡ count_by refuses written
+
+-- where the place tells its bytes
+abbrev pub ClientDoneAt : Ingest → List ℕ → Option Files → Option Files → Session → Type 0
+ClientDoneAt i stem None after s = ⊤
+ClientDoneAt i stem (Some before) None s = ⊥
+ClientDoneAt i stem (Some before) (Some after) s = ClientDone i stem before after s
