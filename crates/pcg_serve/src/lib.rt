@@ -21,3 +21,6 @@ mod tables;
 pub use calls::run;
 pub use pcg_words::{Job, Name, Names, RehearseJob, WordsError, read_words};
 pub use rehearsal::run_rehearse;
+
+#[cfg(test)]
+mod tests;
