@@ -46,12 +46,12 @@ pub client_done : (i : Ingest) (stem requests answers : List ℕ) (f0 f1 f2 f3 f
     → KeepsFiles f2 f3 → PutsHeld f3 f4 answers held' → IsWhole i left held held' s → ClientDoneAt i stem f0 f4 s
 client_done i stem requests answers None f1 f2 f3 f4 left held held' s er ea k1 t1 p2 t2 k3 p4 w = tt
 client_done i stem requests answers (Some m) f1 f2 f3 f4 left held held' s er ea k1 t1 p2 t2 k3 p4 w =
-    let P2 : Option Files → Type 0 = λ f. PutsFile f f2 answers [] in
+    let Put : Option Files → Type 0 = λ f. PutsFile f f2 answers [] in
     let H : Option Files → Type 0 = λ f. TellsTo f held [] in
-    let made : f2 ≡ Some (insert m answers []) = subst P2 k1 p2 in
+    let made : f2 ≡ Some (insert m answers []) = subst Put k1 p2 in
     let empty : held ≡ Some [] = subst H k1 t2 in
-    let K3 : Option Files → Type 0 = λ f. KeepsFiles f f3 in
-    let kept : f3 ≡ Some (insert m answers []) = subst K3 made k3 in
+    let Kept : Option Files → Type 0 = λ f. KeepsFiles f f3 in
+    let kept : f3 ≡ Some (insert m answers []) = subst Kept made k3 in
     let bytes : held' ≡ Some (texts w.written) = holds held held' (texts w.written) empty w.wrote in
     let Q : Option Files → Type 0 = λ f. PutsHeld f f4 answers held' in
     let R : Option (List ℕ) → Type 0 = λ h. PutsHeld (Some (insert m answers [])) f4 answers h in
