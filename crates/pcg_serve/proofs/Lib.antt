@@ -6,3 +6,4 @@ pub mod TableLemmas
 pub mod Transcribing
 pub mod ClientLemmas
 pub mod Finishing
+pub mod Others

@@ -1,6 +1,6 @@
 -- What a call promises that was done: its output and answer files are those of one legal history.
-use Rattle.std.specs.Prelude.{◌≡◌, ◌≤◌, ℕ, ◌+◌, ◌-◌, ◌↔◌, ⊤, not, IsTrue, List, [], ◌∷◌, ◌++◌, length, count_by, Option, Some, None}
-use Rattle.std.specs.List.{filter}
+use Rattle.std.specs.Prelude.{◌≡◌, ◌≤◌, ℕ, ◌+◌, ◌-◌, ◌↔◌, ◌⊎◌, ⊤, Bool, false, not, bytes_eq, IsTrue, List, [], ◌∷◌, ◌++◌, length, count_by, Option, Some, None}
+use Rattle.std.specs.List.{filter, list_any}
 use Rattle.std.specs.FinMap.{get, insert}
 use Rattle.graph_model.specs.Lists.{has}
 use Rattle.graph_model.specs.Components.{Joined as JoinedBy}
@@ -15,7 +15,8 @@ use Rattle.op_model.specs.Refusals.{first_at, last_at, prefix_at}
 use Rattle.op_model.specs.Legal.{Legal}
 use Rattle.op_model.specs.Transcript.{WholeTranscript}
 use Rattle.request_lines.specs.Texts.{entry_text}
-use Rattle.pcg_base.specs.Told.{Files}
+use Rattle.pcg_base.specs.Causes.{Rose}
+use Rattle.pcg_base.specs.Told.{AppendsFront, Files}
 use Rattle.pcg_words.specs.declared.job.RehearseJob.{RehearseJob}
 use Rattle.pcg_words.specs.declared.job.Job.{Job}
 use Rattle.pcg_words.specs.declared.job.Job.TheVariants as job
@@ -132,3 +133,22 @@ abbrev pub ClientDoneAt : Ingest → List ℕ → Option Files → Option Files 
 ClientDoneAt i stem None after s = ⊤
 ClientDoneAt i stem (Some before) None s = ⊥
 ClientDoneAt i stem (Some before) (Some after) s = ClientDone i stem before after s
+
+-- whether this is the answer file of one of these clients
+abbrev pub is_answer_file : List (List ℕ) → List ℕ → Bool
+is_answer_file stems name = list_any (λ stem. bytes_eq (answer_file stem) name) stems
+
+-- where the place tells its bytes it still does, and none but these clients' answer files have changed
+abbrev pub KeepsOthers : List (List ℕ) → Option Files → Option Files → Type 0
+KeepsOthers stems None after = ⊤
+KeepsOthers stems (Some before) None = ⊥
+KeepsOthers stems (Some before) (Some after) = (name : List ℕ) → is_answer_file stems name ≡ false → get after name ≡ get before name
+
+-- the stems of the job that words spell
+abbrev pub stems_of : Option Job → List (List ℕ)
+stems_of None = []
+stems_of (Some (job.Rehearse found)) = found.stems
+
+-- an output gained just this text, or it failed and gained a front of it
+abbrev pub Prints : Option (List ℕ) → Option (List ℕ) → ℕ → ℕ → List ℕ → Type 0
+Prints held held' outs outs' text = Appends held held' text ⊎ (AppendsFront held held' text × Rose outs outs')

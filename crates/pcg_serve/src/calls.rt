@@ -4,7 +4,8 @@ ghost use Rattle.std.specs.Prelude.{◌≡◌, ◌≤◌, ◌⊎◌, Some, None}
 ghost use Rattle.pcg_base.specs.Causes.{Rose};
 ghost use Rattle.pcg_words.specs.Words.{job_of};
 ghost use Rattle.pcg_serve.specs.Causes.{IsUnbuiltJob};
-ghost use Rattle.pcg_serve.specs.Headline.{IsJobDone};
+ghost use Rattle.pcg_serve.specs.Texts.{stop_text};
+ghost use Rattle.pcg_serve.specs.Headline.{IsJobDone, KeepsOthers, Prints, stems_of};
 
 use crate::rehearsal::{run_rehearse, stopped};
 use crate::stops::Stop;
@@ -30,6 +31,10 @@ pub fn run<P: Place, C: Clock + Sync, G: Gate + Sync, K: Sink>(
     ensures read { result ≡ 2 → Rose (P.read_faults place.old) (P.read_faults place.new) }
     ensures write { result ≡ 4 → Rose (P.write_faults place.old) (P.write_faults place.new) ⊎ Rose (K.faults out.old) (K.faults out.new) }
     ensures not_built { result ≡ 8 → IsUnbuiltJob (P.files place.old) (job_of words.now) }
+    ensures bad_words_line { result ≡ 1 → Prints (K.held out.old) (K.held out.new) (K.faults out.old) (K.faults out.new) (stop_text Stop.BadWords) }
+    ensures not_built_line { result ≡ 8 → Prints (K.held out.old) (K.held out.new) (K.faults out.old) (K.faults out.new) (stop_text Stop.NotBuilt) }
+    ensures no_memory_line { result ≡ 5 → Prints (K.held out.old) (K.held out.new) (K.faults out.old) (K.faults out.new) (stop_text Stop.NoMemory) }
+    ensures others { KeepsOthers (stems_of (job_of words.now)) (P.files place.old) (P.files place.new) }
     ensures reads { P.read_faults place.old ≤ P.read_faults place.new }
     ensures writes { P.write_faults place.old ≤ P.write_faults place.new }
     ensures later { K.faults out.old ≤ K.faults out.new }

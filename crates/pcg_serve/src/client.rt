@@ -1,12 +1,12 @@
 //! The only client: its requests are opened, read, answered and kept back.
 
-ghost use Rattle.std.specs.Prelude.{◌≡◌, ◌≢◌, ◌≤◌, ◌⊎◌, ℕ, List, Some, None, IfOk, IfErr, IsErrOf, false, true, IsTrue};
+ghost use Rattle.std.specs.Prelude.{◌≡◌, ◌≤◌, ◌⊎◌, ◌∷◌, [], ℕ, List, Some, None, IfOk, IfErr, IsErrOf, false, true, IsTrue};
 ghost use Rattle.std.specs.FinMap.{get};
 ghost use Rattle.pcg_base.specs.Causes.{Rose};
 ghost use Rattle.pcg_base.specs.Told.{IsLonger, KeepsFiles};
 ghost use Rattle.pcg_words.specs.Job.{answer_file, request_file};
 ghost use Rattle.pcg_serve.specs.Causes.{LongAt, StopsAt};
-ghost use Rattle.pcg_serve.specs.Headline.{ClientDoneAt, IsWhole};
+ghost use Rattle.pcg_serve.specs.Headline.{ClientDoneAt, IsWhole, KeepsOthers};
 ghost use Rattle.pcg_serve.specs.Ingests.{IsIngest};
 
 use crate::ingest::Ingest;
@@ -80,6 +80,7 @@ fn serve_stream<S: Source, K: Sink>(
 }
 
 /// Opens the client's two files, answers its requests, and keeps both files back.
+#[tactic(auto, using(crate::proofs::Others::others_same, crate::proofs::Others::others_kept))]
 pub fn run_client<P: Place>(
     alloc: Global,
     ingest: &Ingest,
@@ -88,6 +89,7 @@ pub fn run_client<P: Place>(
 ) -> Result<Ended, Stop>
     requires { IsIngest ingest.now }
     ensures stop { IfErr result (λ stop. StopsAt (P.files place.old) stem.now (P.read_faults place.old) (P.read_faults place.new) (P.write_faults place.old) (P.write_faults place.new) stop) }
+    ensures others { KeepsOthers (stem.now ∷ []) (P.files place.old) (P.files place.new) }
     ensures whole { IfOk result (λ e. e.fault ≡ None → ClientDoneAt ingest.now stem.now (P.files place.old) (P.files place.new) e.session) }
     ensures read { IfOk result (λ e. e.fault ≡ Some Fault.ReadFault → Rose (P.read_faults place.old) (P.read_faults place.new)) }
     ensures write { IfOk result (λ e. e.fault ≡ Some Fault.WriteFault → Rose (P.write_faults place.old) (P.write_faults place.new)) }

@@ -1,6 +1,7 @@
-use Rattle.std.proofs.Common.{◌≡◌, List, ℕ, subst, rules}
+use Rattle.std.proofs.Common.{◌≡◌, List, [], ◌∷◌, ℕ, subst, rules}
 use Rattle.pcg_base.specs.Told.{PutsHeld}
 use Rattle.pcg_serve.proofs.ClientLemmas.{done_so}
+use Rattle.pcg_serve.proofs.Others.{others_then, others_kept, others_put, others_held}
 use Rattle.pcg_serve.proofs.Stopping.{stops_so}
 use Rattle.pcg_serve.proofs.client.run_client.Goals as goal
 
@@ -18,3 +19,17 @@ returns-clause-whole g c =
     (g.P.In.Source.left c.in-Ok-source_of.source) (g.P.Out.Sink.held c.in-Ok-sink_of.sink) (g.P.Out.Sink.held c.serve_stream-found.new.sink) c.serve_stream-found.result
     (search rules) (search rules) c.source_of.ensures.files c.in-Ok-source_of.ensures.bytes (search rules) c.in-Ok-sink_of.ensures.empty c.keep_in-2.ensures.files (subst N one c.keep_out.ensures.bytes)
     c.serve_stream-found.ensures.whole
+
+pub returns-clause-others : goal.returns-clause-others
+returns-clause-others g c =
+    let stem = c.args.stem.now in
+    let stems : List (List ℕ) = stem ∷ [] in
+    let f0 = g.P.Place.files c.args.place.now in
+    let f1 = g.P.Place.files c.source_of.new.self in
+    let f2 = g.P.Place.files c.sink_of.new.self in
+    let f3 = g.P.Place.files c.keep_in-2.new.self in
+    let f4 = g.P.Place.files c.keep_out.new.self in
+    others_then stems f0 f1 f4 (others_kept stems f0 f1 c.source_of.ensures.files)
+    (others_then stems f1 f2 f4 (others_put stem c.as_str-2.result.now [] f1 f2 (search rules) (search rules))
+    (others_then stems f2 f3 f4 (others_kept stems f2 f3 c.keep_in-2.ensures.files)
+    (others_held stem c.as_str-4.result.now (g.P.Out.Sink.held c.serve_stream-found.new.sink) f3 f4 (search rules) c.keep_out.ensures.bytes)))
