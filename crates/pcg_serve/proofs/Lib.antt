@@ -7,3 +7,4 @@ pub mod Transcribing
 pub mod ClientLemmas
 pub mod Finishing
 pub mod Others
+pub mod Later

@@ -27,7 +27,10 @@ use Rattle.pcg_serve.specs.declared.session.Session.{Session}
 use Rattle.pcg_serve.specs.Ingests.{log_of}
 use Rattle.pcg_serve.specs.Jobs.{HasBase, dataset_of}
 use Rattle.pcg_serve.specs.Sessions.{asked_of, refuses, texts}
-use Rattle.pcg_serve.specs.Texts.{summary_line}
+use Rattle.pcg_serve.specs.declared.stops.Stop.{Stop}
+use Rattle.pcg_serve.specs.Statuses.{status_of}
+use Rattle.pcg_serve.specs.Causes.{Seen, StopCause, EndsSo, StatusSo}
+use Rattle.pcg_serve.specs.Texts.{stop_text, summary_line}
 
 -- the lines of a log, its oldest entry first
 unfoldable pub log_text : List Entry → List ℕ
@@ -152,3 +155,9 @@ stems_of (Some (job.Rehearse found)) = found.stems
 -- an output gained just this text, or it failed and gained a front of it
 abbrev pub Prints : Option (List ℕ) → Option (List ℕ) → ℕ → ℕ → List ℕ → Type 0
 Prints held held' outs outs' text = Appends held held' text ⊎ (AppendsFront held held' text × Rose outs outs')
+
+-- A call stopped before its sessions, by this cause and with this fault line alone; or it came past them, and its status is that of the client's end or of its output.
+abbrev pub Outcome : Option Files → RehearseJob → Seen → Seen → Option (List ℕ) → Option (List ℕ) → ℕ → ℕ → ℕ → Type 0
+Outcome files job old new held held' outs outs' status =
+    ((stop : Stop) × (status ≡ status_of stop) × StopCause files job old new stop × Prints held held' outs outs' (stop_text stop))
+    ⊎ ((ended : ℕ) × EndsSo old.reads new.reads old.writes new.writes ended × StatusSo outs outs' ended status)

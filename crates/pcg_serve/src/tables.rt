@@ -1,10 +1,9 @@
 //! The tables of a job, read from a place.
 
 ghost use Rattle.std.specs.Prelude.{◌≡◌, ◌≤◌, ◌⊎◌, IfOk, IfErr, IsErrOf};
-ghost use Rattle.pcg_base.specs.Causes.{Rose};
 ghost use Rattle.pcg_base.specs.Told.{KeepsFiles};
 ghost use Rattle.pcg_words.specs.Job.{HasRanges};
-ghost use Rattle.pcg_serve.specs.Causes.{TablesStop};
+ghost use Rattle.pcg_serve.specs.Causes.{IsLater, ReadRose, TablesStop};
 ghost use Rattle.pcg_serve.specs.Ingests.{IsIngest};
 ghost use Rattle.pcg_serve.specs.Jobs.{HasBase, HasTable, MakesBase, MakesNone, dataset_of};
 
@@ -24,7 +23,8 @@ fn read_table<P: Place>(
     file: FileName,
 ) -> Result<Option<Vec<u8>>, Stop>
     ensures table { IfOk result (λ t. HasTable (P.files place.old) name.now t) }
-    ensures fault { IfErr result (λ stop. (stop ≡ Stop.NoMemory) ⊎ ((stop ≡ Stop.ReadFault 0 file) × Rose (P.read_faults place.old) (P.read_faults place.new))) }
+    ensures fault { IfErr result (λ stop. (stop ≡ Stop.NoMemory) ⊎ ((stop ≡ Stop.ReadFault 0 file) × ReadRose (record { reads = P.read_faults place.old; writes = P.write_faults place.old; counts = P.counts place.old }) (record { reads = P.read_faults place.new; writes = P.write_faults place.new; counts = P.counts place.new }) name.now)) }
+    ensures later { IsLater (record { reads = P.read_faults place.old; writes = P.write_faults place.old; counts = P.counts place.old }) (record { reads = P.read_faults place.new; writes = P.write_faults place.new; counts = P.counts place.new }) }
     ensures files { KeepsFiles (P.files place.old) (P.files place.new) }
     ensures reads { P.read_faults place.old ≤ P.read_faults place.new }
     ensures writes { P.write_faults place.new ≡ P.write_faults place.old }
@@ -69,7 +69,8 @@ pub fn read_tables<P: Place>(
     ensures made { IfOk result (λ i. IsIngest i) }
     ensures dataset { IfOk result (λ i. i.dataset ≡ dataset_of job.now) }
     ensures base { IfOk result (λ i. HasBase (P.files place.old) job.now i.base) }
-    ensures stop { IfErr result (λ stop. TablesStop (P.files place.old) job.now (P.read_faults place.old) (P.read_faults place.new) stop) }
+    ensures stop { IfErr result (λ stop. TablesStop (P.files place.old) job.now (record { reads = P.read_faults place.old; writes = P.write_faults place.old; counts = P.counts place.old }) (record { reads = P.read_faults place.new; writes = P.write_faults place.new; counts = P.counts place.new }) stop) }
+    ensures later { IsLater (record { reads = P.read_faults place.old; writes = P.write_faults place.old; counts = P.counts place.old }) (record { reads = P.read_faults place.new; writes = P.write_faults place.new; counts = P.counts place.new }) }
     ensures files { KeepsFiles (P.files place.old) (P.files place.new) }
     ensures reads { P.read_faults place.old ≤ P.read_faults place.new }
     ensures writes { P.write_faults place.new ≡ P.write_faults place.old }
