@@ -20,8 +20,6 @@ use Rattle.plain_hierarchy.proofs.Fitting.{legal_small}
 use Rattle.request_lines.specs.Texts.{entry_text}
 use Rattle.pcg_base.specs.Told.{Files, KeepsFiles}
 use Rattle.pcg_words.specs.declared.job.RehearseJob.{RehearseJob}
-use Rattle.pcg_words.specs.declared.job.Job.{Job}
-use Rattle.pcg_words.specs.declared.job.Job.TheVariants as job
 use Rattle.pcg_serve.specs.declared.ingest.Ingest.{Ingest}
 use Rattle.pcg_serve.specs.declared.session.Session.{Session}
 use Rattle.pcg_serve.specs.declared.summary.Summary.{Summary}
@@ -29,7 +27,7 @@ use Rattle.pcg_serve.specs.Ingests.{IsIngest, log_of}
 use Rattle.pcg_serve.specs.Jobs.{HasBase, dataset_of}
 use Rattle.pcg_serve.specs.Sessions.{asked_of, refuses, texts}
 use Rattle.pcg_serve.specs.Texts.{summary_line, summary_text}
-use Rattle.pcg_serve.specs.Headline.{log_text, live_roots, reply_count, refusal_count, answered, AllServed, RootsAreJoined, History, Done, DoneAt, IsDone, IsJobDone, ClientDone, ClientDoneAt}
+use Rattle.pcg_serve.specs.Headline.{log_text, live_roots, reply_count, refusal_count, answered, AllServed, RootsAreJoined, History, Done, DoneAt, IsDone, ClientDone, ClientDoneAt}
 
 legal_of : (i : Ingest) → IsIngest i → Legal i.dataset i.base (log_of i)
 legal_of i ok =
@@ -98,8 +96,3 @@ pub is_done : (job : RehearseJob) (before after : Option Files) (old new : Optio
 is_done job before after None new text a h = tt
 is_done job before after (Some xs) None text a h = absurd a
 is_done job before after (Some xs) (Some ys) text a h = (text, a, h)
-
-pub job_done : (wanted : Option Job) (found : RehearseJob) (before after : Option Files) (old new : Option (List ℕ)) → wanted ≡ Some (job.Rehearse found) → IsDone found before after old new → IsJobDone wanted before after old new
-job_done wanted found before after old new e h =
-    let P : Option Job → Type 0 = λ w. IsJobDone w before after old new in
-    subst P (sym e) h

@@ -28,6 +28,7 @@ use Rattle.pcg_serve.specs.Ingests.{log_of}
 use Rattle.pcg_serve.specs.Jobs.{HasBase, dataset_of}
 use Rattle.pcg_serve.specs.Sessions.{asked_of, refuses, texts}
 use Rattle.pcg_serve.specs.declared.stops.Stop.{Stop}
+use Rattle.pcg_serve.specs.declared.stops.Stop.TheVariants as stops
 use Rattle.pcg_serve.specs.Statuses.{status_of}
 use Rattle.pcg_serve.specs.Causes.{Seen, StopCause, EndsSo, StatusSo}
 use Rattle.pcg_serve.specs.Texts.{stop_text, summary_line}
@@ -161,3 +162,14 @@ abbrev pub Outcome : Option Files → RehearseJob → Seen → Seen → Option (
 Outcome files job old new held held' outs outs' status =
     ((stop : Stop) × (status ≡ status_of stop) × StopCause files job old new stop × Prints held held' outs outs' (stop_text stop))
     ⊎ ((ended : ℕ) × EndsSo old.reads new.reads old.writes new.writes ended × StatusSo outs outs' ended status)
+
+-- The same of words: they spell no job, or its outcome is this, or memory ran out over them.
+abbrev pub JobOutcome : Option Files → Option Job → Seen → Seen → Option (List ℕ) → Option (List ℕ) → ℕ → ℕ → ℕ → Type 0
+JobOutcome files None old new held held' outs outs' status =
+    ((status ≡ 1) × Prints held held' outs outs' (stop_text stops.BadWords)) ⊎ ((status ≡ 5) × Prints held held' outs outs' (stop_text stops.NoMemory))
+JobOutcome files (Some (job.Rehearse found)) old new held held' outs outs' status =
+    Outcome files found old new held held' outs outs' status ⊎ ((status ≡ 5) × Prints held held' outs outs' (stop_text stops.NoMemory))
+
+-- no count rose
+abbrev pub IsQuiet : ℕ → ℕ → ℕ → ℕ → ℕ → ℕ → Type 0
+IsQuiet reads reads' writes writes' outs outs' = (¬ (Rose reads reads')) × (¬ (Rose writes writes')) × (¬ (Rose outs outs'))

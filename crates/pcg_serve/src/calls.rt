@@ -1,11 +1,11 @@
 //! The program's call.
 
-ghost use Rattle.std.specs.Prelude.{◌≡◌, ◌≤◌, ◌⊎◌, Some, None};
+ghost use Rattle.std.specs.Prelude.{◌≡◌, ◌≢◌, ◌≤◌, ◌⊎◌, Some, None};
 ghost use Rattle.pcg_base.specs.Causes.{Rose};
-ghost use Rattle.pcg_words.specs.Words.{job_of};
+ghost use Rattle.pcg_words.specs.Words.{MeetsMode, job_of};
 ghost use Rattle.pcg_serve.specs.Causes.{IsUnbuiltJob};
 ghost use Rattle.pcg_serve.specs.Texts.{stop_text};
-ghost use Rattle.pcg_serve.specs.Headline.{IsJobDone, KeepsOthers, Prints, stems_of};
+ghost use Rattle.pcg_serve.specs.Headline.{IsJobDone, IsQuiet, JobOutcome, KeepsOthers, Prints, stems_of};
 
 use crate::rehearsal::{run_rehearse, stopped};
 use crate::stops::Stop;
@@ -31,6 +31,9 @@ pub fn run<P: Place, C: Clock + Sync, G: Gate + Sync, K: Sink>(
     ensures read { result ≡ 2 → Rose (P.read_faults place.old) (P.read_faults place.new) }
     ensures write { result ≡ 4 → Rose (P.write_faults place.old) (P.write_faults place.new) ⊎ Rose (K.faults out.old) (K.faults out.new) }
     ensures not_built { result ≡ 8 → IsUnbuiltJob (P.files place.old) (job_of words.now) }
+    ensures outcome { JobOutcome (P.files place.old) (job_of words.now) (record { reads = P.read_faults place.old; writes = P.write_faults place.old; counts = P.counts place.old }) (record { reads = P.read_faults place.new; writes = P.write_faults place.new; counts = P.counts place.new }) (K.held out.old) (K.held out.new) (K.faults out.old) (K.faults out.new) result }
+    ensures complete { IsQuiet (P.read_faults place.old) (P.read_faults place.new) (P.write_faults place.old) (P.write_faults place.new) (K.faults out.old) (K.faults out.new)
+        → job_of words.now ≢ None → ¬ (IsUnbuiltJob (P.files place.old) (job_of words.now)) → (result ≡ 0) ⊎ (result ≡ 5) }
     ensures bad_words_line { result ≡ 1 → Prints (K.held out.old) (K.held out.new) (K.faults out.old) (K.faults out.new) (stop_text Stop.BadWords) }
     ensures not_built_line { result ≡ 8 → Prints (K.held out.old) (K.held out.new) (K.faults out.old) (K.faults out.new) (stop_text Stop.NotBuilt) }
     ensures no_memory_line { result ≡ 5 → Prints (K.held out.old) (K.held out.new) (K.faults out.old) (K.faults out.new) (stop_text Stop.NoMemory) }
@@ -40,8 +43,29 @@ pub fn run<P: Place, C: Clock + Sync, G: Gate + Sync, K: Sink>(
     ensures later { K.faults out.old ≤ K.faults out.new }
 {
     match read_words(alloc, words) {
-        Ok(Job::Rehearse(job)) => run_rehearse(alloc, &job, place, out),
+        Ok(job) => run_job(alloc, &job, place, out),
         Err(WordsError::BadWords) => stopped(Stop::BadWords, out),
         Err(WordsError::NoMemory) => stopped(Stop::NoMemory, out),
+    }
+}
+
+/// Does a job, by its mode.
+fn run_job<P: Place, K: Sink>(alloc: Global, job: &Job, place: &mut P, out: &mut K) -> u8
+    requires { MeetsMode job.now }
+    ensures outcome { JobOutcome (P.files place.old) (Some job.now) (record { reads = P.read_faults place.old; writes = P.write_faults place.old; counts = P.counts place.old }) (record { reads = P.read_faults place.new; writes = P.write_faults place.new; counts = P.counts place.new }) (K.held out.old) (K.held out.new) (K.faults out.old) (K.faults out.new) result }
+    ensures done { result ≡ 0 → IsJobDone (Some job.now) (P.files place.old) (P.files place.new) (K.held out.old) (K.held out.new) }
+    ensures known { (result ≡ 0) ⊎ (result ≡ 2) ⊎ (result ≡ 4) ⊎ (result ≡ 5) ⊎ (result ≡ 8) }
+    ensures read { result ≡ 2 → Rose (P.read_faults place.old) (P.read_faults place.new) }
+    ensures write { result ≡ 4 → Rose (P.write_faults place.old) (P.write_faults place.new) ⊎ Rose (K.faults out.old) (K.faults out.new) }
+    ensures not_built { result ≡ 8 → IsUnbuiltJob (P.files place.old) (Some job.now) }
+    ensures not_built_line { result ≡ 8 → Prints (K.held out.old) (K.held out.new) (K.faults out.old) (K.faults out.new) (stop_text Stop.NotBuilt) }
+    ensures no_memory_line { result ≡ 5 → Prints (K.held out.old) (K.held out.new) (K.faults out.old) (K.faults out.new) (stop_text Stop.NoMemory) }
+    ensures others { KeepsOthers (stems_of (Some job.now)) (P.files place.old) (P.files place.new) }
+    ensures reads { P.read_faults place.old ≤ P.read_faults place.new }
+    ensures writes { P.write_faults place.old ≤ P.write_faults place.new }
+    ensures later { K.faults out.old ≤ K.faults out.new }
+{
+    match job {
+        Job::Rehearse(job) => run_rehearse(alloc, job, place, out),
     }
 }
