@@ -23,4 +23,6 @@ pub use pcg_words::{Job, Name, Names, RehearseJob, WordsError, read_words};
 pub use rehearsal::run_rehearse;
 
 #[cfg(test)]
+mod device_tests;
+#[cfg(test)]
 mod tests;
