@@ -12,10 +12,12 @@ use Rattle.op_model.specs.declared.Reply.{Reply}
 use Rattle.op_model.specs.Edges.{linked}
 use Rattle.op_model.specs.Labels.{edges, root}
 use Rattle.op_model.specs.Operations.{first_entry}
+use Rattle.op_model.specs.Answers.{leaves}
 use Rattle.op_model.specs.Records.{records}
 use Rattle.op_model.specs.Refusals.{first_at, last_at, prefix_at}
 use Rattle.op_model.specs.Legal.{Legal}
 use Rattle.op_model.proofs.RootLemmas.{roots_joined}
+use Rattle.pcg_serve.proofs.Leaves.{leaf_only, leaf_has}
 use Rattle.plain_hierarchy.proofs.Fitting.{legal_small}
 use Rattle.request_lines.specs.Texts.{entry_text}
 use Rattle.pcg_base.specs.Told.{Files, KeepsFiles}
@@ -27,7 +29,7 @@ use Rattle.pcg_serve.specs.Ingests.{IsIngest, log_of}
 use Rattle.pcg_serve.specs.Jobs.{HasBase, dataset_of}
 use Rattle.pcg_serve.specs.Sessions.{asked_of, refuses, texts}
 use Rattle.pcg_serve.specs.Texts.{summary_line, summary_text}
-use Rattle.pcg_serve.specs.Headline.{log_text, live_roots, reply_count, refusal_count, answered, AllServed, RootsAreJoined, History, Done, DoneAt, IsDone, ClientDone, ClientDoneAt}
+use Rattle.pcg_serve.specs.Headline.{log_text, live_roots, reply_count, refusal_count, answered, AllServed, RootsAreJoined, LeavesAreJoined, History, Done, DoneAt, IsDone, ClientDone, ClientDoneAt}
 
 legal_of : (i : Ingest) → IsIngest i → Legal i.dataset i.base (log_of i)
 legal_of i ok =
@@ -43,6 +45,15 @@ roots_of : (i : Ingest) → IsIngest i → RootsAreJoined i.dataset i.base (log_
 roots_of i ok = λ t u v early late hu hv.
     let P : List Entry → Type 0 = λ log. (root i.dataset i.base log u ≡ root i.dataset i.base log v) ↔ JoinedBy (linked (edges i.dataset i.base log)) i.base.supervoxels u v in
     subst P (sym (prefix_of i.entry t early)) (roots_joined i.dataset i.base ok.dataset ok.base (log_of i) u v (legal_of i ok) hu hv)
+
+leaves_of : (i : Ingest) → IsIngest i → LeavesAreJoined i.dataset i.base (log_of i)
+leaves_of i ok = λ t v w early late hv.
+    let P : List Entry → Type 0 = λ log. IsTrue (has (leaves i.dataset i.base log (root i.dataset i.base log v)) w) ↔ (IsTrue (has i.base.supervoxels w) × JoinedBy (linked (edges i.dataset i.base log)) i.base.supervoxels v w) in
+    let joined = λ (x : ℕ) (hx : has i.base.supervoxels x ≡ true). roots_joined i.dataset i.base ok.dataset ok.base (log_of i) v x (legal_of i ok) hv hx in
+    subst P (sym (prefix_of i.entry t early)) (
+      (λ h. let l = leaf_only i.dataset i.base i.entry v w ok.entry hv h in (l.0, (joined w l.0).0 (sym l.1))),
+      (λ k. leaf_has i.dataset i.base i.entry v w ok.entry hv k.0 (sym ((joined w k.0).1 k.1))),
+    )
 
 -- what is printed of a log of one entry and one client's replies
 text_of : (d : Dataset) (b : Base) (e : Entry) (stem : List ℕ) (rs : List Reply) (s : Summary) → s.accepted ≡ 0 → s.clients ≡ 1 → s.entries ≡ 1 → s.faults.items ≡ [] → s.lines ≡ length rs
@@ -74,6 +85,7 @@ history_of i stem before after s summary ok c h0 h1 h2 h3 h4 h5 h6 h7 h8 = recor
   served = (c.served, tt);
   files = c.files;
   roots = roots_of i ok;
+  leaves = leaves_of i ok;
   text = text_of i.dataset i.base i.entry stem c.written summary h0 h1 h2 h3 (h4 ∙ c.count) (h5 ∙ ok.records) (h6 ∙ c.noes) h7 h8;
 }
 

@@ -5,6 +5,7 @@ pub mod Stopping
 pub mod TableLemmas
 pub mod Transcribing
 pub mod ClientLemmas
+pub mod Leaves
 pub mod Finishing
 pub mod Others
 pub mod Later

@@ -10,6 +10,7 @@ use Rattle.op_model.specs.declared.Entry.{Entry}
 use Rattle.op_model.specs.declared.Reply.{Reply}
 use Rattle.op_model.specs.Edges.{linked}
 use Rattle.op_model.specs.Labels.{edges, root}
+use Rattle.op_model.specs.Answers.{leaves}
 use Rattle.op_model.specs.Records.{records}
 use Rattle.op_model.specs.Refusals.{first_at, last_at, prefix_at}
 use Rattle.op_model.specs.Legal.{Legal}
@@ -76,6 +77,12 @@ module _ (d : Dataset) (b : Base) where
       (t u v : ℕ) → first_at log ≤ t → t ≤ last_at log → IsTrue (has b.supervoxels u) → IsTrue (has b.supervoxels v)
       → (root d b (prefix_at log t) u ≡ root d b (prefix_at log t) v) ↔ JoinedBy (linked (edges d b (prefix_at log t))) b.supervoxels u v
 
+  -- At each published time the leaves of a supervoxel's root are the supervoxels that a walk of active edges joins to it.
+  abbrev pub LeavesAreJoined : List Entry → Type 0
+  LeavesAreJoined log =
+      (t v w : ℕ) → first_at log ≤ t → t ≤ last_at log → IsTrue (has b.supervoxels v)
+      → IsTrue (has (leaves d b (prefix_at log t) (root d b (prefix_at log t) v)) w) ↔ (IsTrue (has b.supervoxels w) × JoinedBy (linked (edges d b (prefix_at log t))) b.supervoxels v w)
+
   -- One legal log stands behind all that was printed and answered.
   pub record History (before after : Files) (stems : List (List ℕ)) (printed : List ℕ) : Type 0 where
     pub log : List Entry
@@ -84,6 +91,7 @@ module _ (d : Dataset) (b : Base) where
     pub served : AllServed before log 1 stems replies
     pub files : after ≡ answered before stems replies
     pub roots : RootsAreJoined log
+    pub leaves : LeavesAreJoined log
     pub text : printed ≡ log_text log
         ++ summary_line (length log - 1) (length stems) (length log) [] (reply_count replies) (records d b log) (refusal_count replies) (length (live_roots log)) 0
 
