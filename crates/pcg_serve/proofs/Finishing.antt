@@ -22,6 +22,10 @@ use Rattle.plain_hierarchy.proofs.Fitting.{legal_small}
 use Rattle.request_lines.specs.Texts.{entry_text}
 use Rattle.pcg_base.specs.Told.{Files, KeepsFiles}
 use Rattle.pcg_words.specs.declared.job.RehearseJob.{RehearseJob}
+use Rattle.pcg_base.specs.Causes.{Rose}
+use Rattle.pcg_serve.specs.declared.summary.Fault.{Fault}
+use Rattle.pcg_serve.specs.declared.summary.Fault.TheVariants as faults
+use Rattle.pcg_serve.specs.Causes.{Seen, IsLater}
 use Rattle.pcg_serve.specs.declared.ingest.Ingest.{Ingest}
 use Rattle.pcg_serve.specs.declared.session.Session.{Session}
 use Rattle.pcg_serve.specs.declared.summary.Summary.{Summary}
@@ -29,7 +33,7 @@ use Rattle.pcg_serve.specs.Ingests.{IsIngest, log_of}
 use Rattle.pcg_serve.specs.Jobs.{HasBase, dataset_of}
 use Rattle.pcg_serve.specs.Sessions.{asked_of, refuses, texts}
 use Rattle.pcg_serve.specs.Texts.{summary_line, summary_text}
-use Rattle.pcg_serve.specs.Headline.{log_text, live_roots, reply_count, refusal_count, answered, AllServed, RootsAreJoined, LeavesAreJoined, History, Done, DoneAt, IsDone, ClientDone, ClientDoneAt}
+use Rattle.pcg_serve.specs.Headline.{log_text, live_roots, reply_count, refusal_count, answered, AllServed, RootsAreJoined, LeavesAreJoined, History, Done, DoneAt, IsDone, ClientDone, ClientDoneAt, CamePast, FaultCause, faults_of, fault_status}
 
 legal_of : (i : Ingest) → IsIngest i → Legal i.dataset i.base (log_of i)
 legal_of i ok =
@@ -108,3 +112,45 @@ pub is_done : (job : RehearseJob) (before after : Option Files) (old new : Optio
 is_done job before after None new text a h = tt
 is_done job before after (Some xs) None text a h = absurd a
 is_done job before after (Some xs) (Some ys) text a h = (text, a, h)
+
+-- what is printed of a log of one entry, however the session ended
+text_past : (d : Dataset) (b : Base) (e : Entry) (fault : Option Fault) (s : Summary) → s.accepted ≡ 0 → s.clients ≡ 1 → s.entries ≡ 1 → s.faults.items ≡ faults_of fault
+    → s.records ≡ records d b (e ∷ []) → s.roots ≡ length e.made → s.status ≡ fault_status fault
+    → entry_text e ++ summary_text s ≡ log_text (e ∷ [])
+    ++ summary_line (length (e ∷ []) - 1) 1 (length (e ∷ [])) (faults_of fault) s.lines (records d b (e ∷ [])) s.refused (length (live_roots (e ∷ []))) (fault_status fault)
+unfolding log_text live_roots
+text_past d b e fault s h0 h1 h2 h3 h5 h7 h8 =
+    ap (λ t. entry_text e ++ t)
+    (ap (λ n. summary_line n s.clients s.entries s.faults.items s.lines s.records s.refused s.roots s.status) h0
+    ∙ ap (λ n. summary_line 0 n s.entries s.faults.items s.lines s.records s.refused s.roots s.status) h1
+    ∙ ap (λ n. summary_line 0 1 n s.faults.items s.lines s.records s.refused s.roots s.status) h2
+    ∙ ap (λ fs. summary_line 0 1 1 fs s.lines s.records s.refused s.roots s.status) h3
+    ∙ ap (λ n. summary_line 0 1 1 (faults_of fault) s.lines n s.refused s.roots s.status) h5
+    ∙ ap (λ n. summary_line 0 1 1 (faults_of fault) s.lines (records d b (e ∷ [])) s.refused n s.status) h7
+    ∙ ap (λ n. summary_line 0 1 1 (faults_of fault) s.lines (records d b (e ∷ [])) s.refused (length e.made) n) h8)
+
+-- a fault's cause, where the counts that rose behind rose from before
+caused : (fault : Option Fault) (a b c : Seen) → IsLater a b → (fault ≡ Some faults.ReadFault → Rose b.reads c.reads) → (fault ≡ Some faults.WriteFault → Rose b.writes c.writes) → FaultCause fault a c
+caused None a b c h r w = tt
+caused (Some faults.ReadFault) a b c h r w = omega (arith, h.reads, r refl)
+caused (Some faults.WriteFault) a b c h r w = omega (arith, h.writes, w refl)
+
+pub came_past : (files : Option Files) (job : RehearseJob) (i : Ingest) (fault : Option Fault) (summary : Summary) (a b c : Seen) → IsIngest i → i.dataset ≡ dataset_of job → HasBase files job i.base
+    → IsLater a b → (fault ≡ Some faults.ReadFault → Rose b.reads c.reads) → (fault ≡ Some faults.WriteFault → Rose b.writes c.writes)
+    → summary.accepted ≡ 0 → summary.clients ≡ 1 → summary.entries ≡ 1 → summary.faults.items ≡ faults_of fault → summary.records ≡ i.records
+    → summary.roots ≡ length i.entry.made → summary.status ≡ fault_status fault
+    → CamePast files job a c (entry_text i.entry ++ summary_text summary) summary.status
+came_past files job i fault summary a b c ok made base later r w h0 h1 h2 h3 h5 h7 h8 =
+    let L : Dataset → Type 0 = λ d. Legal d i.base (log_of i) in
+    record {
+      base = i.base;
+      has_base = base;
+      log = log_of i;
+      legal = subst L made (legal_of i ok);
+      fault = fault;
+      cause = caused fault a b c later r w;
+      status = h8;
+      lines = summary.lines;
+      refused = summary.refused;
+      text = text_past (dataset_of job) i.base i.entry fault summary h0 h1 h2 h3 (h5 ∙ ok.records ∙ ap (λ d. records d i.base (i.entry ∷ [])) made) h7 h8;
+    }

@@ -28,10 +28,13 @@ use Rattle.pcg_serve.specs.declared.session.Session.{Session}
 use Rattle.pcg_serve.specs.Ingests.{log_of}
 use Rattle.pcg_serve.specs.Jobs.{HasBase, dataset_of}
 use Rattle.pcg_serve.specs.Sessions.{asked_of, refuses, texts}
+use Rattle.pcg_serve.specs.declared.summary.Fault.{Fault}
+use Rattle.pcg_serve.specs.declared.summary.Fault.TheVariants as faults
+use Rattle.pcg_serve.specs.declared.summary.ClientFault.{ClientFault}
 use Rattle.pcg_serve.specs.declared.stops.Stop.{Stop}
 use Rattle.pcg_serve.specs.declared.stops.Stop.TheVariants as stops
 use Rattle.pcg_serve.specs.Statuses.{status_of}
-use Rattle.pcg_serve.specs.Causes.{Seen, StopCause, EndsSo, StatusSo}
+use Rattle.pcg_serve.specs.Causes.{Seen, StopCause, StatusSo}
 use Rattle.pcg_serve.specs.Texts.{stop_text, summary_line}
 
 -- the lines of a log, its oldest entry first
@@ -165,11 +168,42 @@ stems_of (Some (job.Rehearse found)) = found.stems
 abbrev pub Prints : Option (List ℕ) → Option (List ℕ) → ℕ → ℕ → List ℕ → Type 0
 Prints held held' outs outs' text = Appends held held' text ⊎ (AppendsFront held held' text × Rose outs outs')
 
--- A call stopped before its sessions, by this cause and with this fault line alone; or it came past them, and its status is that of the client's end or of its output.
+-- how the only client's session ended, as the summary tells it
+abbrev pub faults_of : Option Fault → List ClientFault
+faults_of None = []
+faults_of (Some fault) = record { client = 1; fault = fault } ∷ []
+
+-- the status that this end gives
+abbrev pub fault_status : Option Fault → ℕ
+fault_status None = 0
+fault_status (Some faults.ReadFault) = 2
+fault_status (Some faults.WriteFault) = 4
+
+-- a session ends in a fault only where the place's count of its kind rose
+abbrev pub FaultCause : Option Fault → Seen → Seen → Type 0
+FaultCause None old new = ⊤
+FaultCause (Some faults.ReadFault) old new = Rose old.reads new.reads
+FaultCause (Some faults.WriteFault) old new = Rose old.writes new.writes
+
+-- A call came past its sessions: the tables spell a base, and what is printed are the lines of a legal log over it and the summary.
+pub record CamePast (files : Option Files) (job : RehearseJob) (old new : Seen) (printed : List ℕ) (ended : ℕ) : Type 0 where
+  pub base : Base
+  pub has_base : HasBase files job base
+  pub log : List Entry
+  pub legal : Legal (dataset_of job) base log
+  pub fault : Option Fault
+  pub cause : FaultCause fault old new
+  pub status : ended ≡ fault_status fault
+  pub lines : ℕ
+  pub refused : ℕ
+  pub text : printed ≡ log_text log
+      ++ summary_line (length log - 1) 1 (length log) (faults_of fault) lines (records (dataset_of job) base log) refused (length (live_roots log)) (fault_status fault)
+
+-- A call stopped before its sessions, by this cause and with this fault line alone; or it came past them, printed the log and the summary, and its status is that of the client's end or of its output.
 abbrev pub Outcome : Option Files → RehearseJob → Seen → Seen → Option (List ℕ) → Option (List ℕ) → ℕ → ℕ → ℕ → Type 0
 Outcome files job old new held held' outs outs' status =
     ((stop : Stop) × (status ≡ status_of stop) × StopCause files job old new stop × Prints held held' outs outs' (stop_text stop))
-    ⊎ ((ended : ℕ) × EndsSo old.reads new.reads old.writes new.writes ended × StatusSo outs outs' ended status)
+    ⊎ ((ended : ℕ) × (printed : List ℕ) × CamePast files job old new printed ended × Prints held held' outs outs' printed × StatusSo outs outs' ended status)
 
 -- The same of words: they spell no job, or its outcome is this, or memory ran out over them.
 abbrev pub JobOutcome : Option Files → Option Job → Seen → Seen → Option (List ℕ) → Option (List ℕ) → ℕ → ℕ → ℕ → Type 0

@@ -7,7 +7,7 @@ ghost use Rattle.pcg_base.specs.Told.{AppendsFront};
 ghost use Rattle.pcg_words.specs.Job.{IsJob};
 ghost use Rattle.request_lines.specs.Texts.{entry_text};
 ghost use Rattle.pcg_serve.specs.Causes.{EndsSo, IsUnbuilt, StatusSo, StopCause, has_one_client};
-ghost use Rattle.pcg_serve.specs.Headline.{DoneAt, IsDone, KeepsOthers, Outcome, Prints};
+ghost use Rattle.pcg_serve.specs.Headline.{CamePast, DoneAt, IsDone, KeepsOthers, Outcome, Prints, fault_status, faults_of};
 ghost use Rattle.pcg_serve.specs.Ingests.{IsIngest};
 ghost use Rattle.pcg_serve.specs.Statuses.{status_of};
 ghost use Rattle.pcg_serve.specs.Texts.{stop_text, summary_text};
@@ -76,6 +76,8 @@ fn summary_of(ingest: &Ingest, ended: Ended, faults: Vec<ClientFault>) -> Summar
     requires empty { faults.items ≡ [] }
     ensures one { (result.accepted ≡ 0) × (result.clients ≡ 1) × (result.entries ≡ 1) }
     ensures faults { ended.fault ≡ None → result.faults.items ≡ [] }
+    ensures all_faults { result.faults.items ≡ faults_of ended.fault }
+    ensures status { result.status ≡ fault_status ended.fault }
     ensures lines { result.lines ≡ ended.session.lines }
     ensures refused { result.refused ≡ ended.session.refused }
     ensures records { result.records ≡ ingest.now.records }
@@ -104,6 +106,7 @@ fn rehearse<P: Place>(alloc: Global, job: &RehearseJob, place: &mut P) -> Result
     requires { IsJob job.now }
     ensures stop { IfErr result (λ stop. StopCause (P.files place.old) job.now (record { reads = P.read_faults place.old; writes = P.write_faults place.old; counts = P.counts place.old }) (record { reads = P.read_faults place.new; writes = P.write_faults place.new; counts = P.counts place.new }) stop) }
     ensures done { IfOk result (λ r. r.summary.status ≡ 0 → DoneAt job.now (P.files place.old) (P.files place.new) (entry_text r.ingest.entry ++ summary_text r.summary)) }
+    ensures came { IfOk result (λ r. CamePast (P.files place.old) job.now (record { reads = P.read_faults place.old; writes = P.write_faults place.old; counts = P.counts place.old }) (record { reads = P.read_faults place.new; writes = P.write_faults place.new; counts = P.counts place.new }) (entry_text r.ingest.entry ++ summary_text r.summary) r.summary.status) }
     ensures others { KeepsOthers job.now.stems (P.files place.old) (P.files place.new) }
     ensures status { IfOk result (λ r. EndsSo (P.read_faults place.old) (P.read_faults place.new) (P.write_faults place.old) (P.write_faults place.new) r.summary.status) }
     ensures reads { P.read_faults place.old ≤ P.read_faults place.new }
@@ -135,6 +138,7 @@ fn print<K: Sink>(done: &Rehearsed, out: &mut K) -> Result<(), Failed>
 /// Writes the log and the summary, and answers the status.
 fn finish<K: Sink>(done: &Rehearsed, out: &mut K) -> u8
     ensures status { StatusSo (K.faults out.old) (K.faults out.new) done.now.summary.status result }
+    ensures line { Prints (K.held out.old) (K.held out.new) (K.faults out.old) (K.faults out.new) (entry_text done.now.ingest.entry ++ summary_text done.now.summary) }
     ensures printed { result ≡ 0 → (done.now.summary.status ≡ 0) × Appends (K.held out.old) (K.held out.new) (entry_text done.now.ingest.entry ++ summary_text done.now.summary) }
     ensures later { K.faults out.old ≤ K.faults out.new }
 {

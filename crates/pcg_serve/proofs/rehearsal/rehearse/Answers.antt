@@ -1,4 +1,4 @@
-use Rattle.pcg_serve.proofs.Finishing.{done_at}
+use Rattle.pcg_serve.proofs.Finishing.{came_past, done_at}
 use Rattle.pcg_serve.proofs.rehearsal.rehearse.Goals as goal
 
 pub returns-clause-done : goal.returns-clause-done
@@ -8,3 +8,13 @@ returns-clause-done g c = λ zero.
     done_at c.args.job.now c.in_ok-ingest.ingest c.in-Some.stem.now (g.P.Place.files c.args.place.now) (g.P.Place.files c.read_tables.new.place) (g.P.Place.files c.run_client.new.place)
     c.in_ok-ended.ended.session c.summary_of-summary.result c.in_ok-ingest.ensures.made c.in_ok-ingest.ensures.dataset c.in_ok-ingest.ensures.base c.read_tables.ensures.files
     (c.in_ok-ended.ensures.whole none) c.in-Some.ensures.one of.one.0 of.one.1 of.one.2 (of.faults none) of.lines of.records of.refused of.roots zero
+
+pub returns-clause-came : goal.returns-clause-came
+returns-clause-came g c =
+    let of = c.summary_of-summary.ensures in
+    came_past (g.P.Place.files c.args.place.now) c.args.job.now c.in_ok-ingest.ingest c.in_ok-ended.ended.fault c.summary_of-summary.result
+    (record { reads = g.P.Place.read_faults c.args.place.now; writes = g.P.Place.write_faults c.args.place.now; counts = g.P.Place.counts c.args.place.now })
+    (record { reads = g.P.Place.read_faults c.read_tables.new.place; writes = g.P.Place.write_faults c.read_tables.new.place; counts = g.P.Place.counts c.read_tables.new.place })
+    (record { reads = g.P.Place.read_faults c.run_client.new.place; writes = g.P.Place.write_faults c.run_client.new.place; counts = g.P.Place.counts c.run_client.new.place })
+    c.in_ok-ingest.ensures.made c.in_ok-ingest.ensures.dataset c.in_ok-ingest.ensures.base c.read_tables.ensures.later
+    c.in_ok-ended.ensures.read c.in_ok-ended.ensures.write of.one.0 of.one.1 of.one.2 of.all_faults of.records of.roots of.status
