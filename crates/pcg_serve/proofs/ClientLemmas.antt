@@ -19,7 +19,7 @@ shadowed true x y z = refl
 shadowed false x y z = refl
 
 -- what is put last at a name counts
-put_twice : (m : Files) (name old new : List ℕ) → insert (insert m name old) name new ≡ insert m name new
+pub put_twice : (m : Files) (name old new : List ℕ) → insert (insert m name old) name new ≡ insert m name new
 put_twice m name old new =
     same_map nat_list_cmp_total (slice_cmp-IsAntisymmetric nat_cmp-IsAntisymmetric) (insert (insert m name old) name new) (insert m name new)
     (λ q. get-insert nat_list_cmp_total (insert m name old) name new q

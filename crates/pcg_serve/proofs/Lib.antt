@@ -9,3 +9,4 @@ pub mod Leaves
 pub mod Finishing
 pub mod Others
 pub mod Later
+pub mod Unanswered

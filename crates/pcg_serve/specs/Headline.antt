@@ -17,7 +17,7 @@ use Rattle.op_model.specs.Legal.{Legal}
 use Rattle.op_model.specs.Transcript.{WholeTranscript}
 use Rattle.request_lines.specs.Texts.{entry_text}
 use Rattle.pcg_base.specs.Causes.{Rose}
-use Rattle.pcg_base.specs.Told.{AppendsFront, Files}
+use Rattle.pcg_base.specs.Told.{AppendsFront, Files, KeepsFiles}
 use Rattle.pcg_words.specs.declared.job.RehearseJob.{RehearseJob}
 use Rattle.pcg_words.specs.declared.job.Job.{Job}
 use Rattle.pcg_words.specs.declared.job.Job.TheVariants as job
@@ -199,18 +199,28 @@ pub record CamePast (files : Option Files) (job : RehearseJob) (old new : Seen) 
   pub text : printed ≡ log_text log
       ++ summary_line (length log - 1) 1 (length log) (faults_of fault) lines (records (dataset_of job) base log) refused (length (live_roots log)) (fault_status fault)
 
--- A call stopped before its sessions, by this cause and with this fault line alone; or it came past them, printed the log and the summary, and its status is that of the client's end or of its output.
-abbrev pub Outcome : Option Files → RehearseJob → Seen → Seen → Option (List ℕ) → Option (List ℕ) → ℕ → ℕ → ℕ → Type 0
-Outcome files job old new held held' outs outs' status =
-    ((stop : Stop) × (status ≡ status_of stop) × StopCause files job old new stop × Prints held held' outs outs' (stop_text stop))
+-- where the place tells its bytes, they are as they were, but that the client's answer file may be empty
+abbrev pub UnansweredAt : Option Files → List ℕ → Option Files → Type 0
+UnansweredAt None stem after = ⊤
+UnansweredAt (Some before) stem after = (after ≡ Some before) ⊎ (after ≡ Some (insert before (answer_file stem) []))
+
+-- the same of the only client
+abbrev pub Unanswered : Option Files → List (List ℕ) → Option Files → Type 0
+Unanswered files [] files' = KeepsFiles files files'
+Unanswered files (stem ∷ stems) files' = UnansweredAt files stem files'
+
+-- A call stopped before its sessions, by this cause, with this fault line alone and no answer; or it came past them, printed the log and the summary, and its status is that of the client's end or of its output.
+abbrev pub Outcome : Option Files → Option Files → RehearseJob → Seen → Seen → Option (List ℕ) → Option (List ℕ) → ℕ → ℕ → ℕ → Type 0
+Outcome files files' job old new held held' outs outs' status =
+    ((stop : Stop) × (status ≡ status_of stop) × StopCause files job old new stop × Unanswered files job.stems files' × Prints held held' outs outs' (stop_text stop))
     ⊎ ((ended : ℕ) × (printed : List ℕ) × CamePast files job old new printed ended × Prints held held' outs outs' printed × StatusSo outs outs' ended status)
 
 -- The same of words: they spell no job, or its outcome is this, or memory ran out over them.
-abbrev pub JobOutcome : Option Files → Option Job → Seen → Seen → Option (List ℕ) → Option (List ℕ) → ℕ → ℕ → ℕ → Type 0
-JobOutcome files None old new held held' outs outs' status =
+abbrev pub JobOutcome : Option Files → Option Files → Option Job → Seen → Seen → Option (List ℕ) → Option (List ℕ) → ℕ → ℕ → ℕ → Type 0
+JobOutcome files files' None old new held held' outs outs' status =
     ((status ≡ 1) × Prints held held' outs outs' (stop_text stops.BadWords)) ⊎ ((status ≡ 5) × Prints held held' outs outs' (stop_text stops.NoMemory))
-JobOutcome files (Some (job.Rehearse found)) old new held held' outs outs' status =
-    Outcome files found old new held held' outs outs' status ⊎ ((status ≡ 5) × Prints held held' outs outs' (stop_text stops.NoMemory))
+JobOutcome files files' (Some (job.Rehearse found)) old new held held' outs outs' status =
+    Outcome files files' found old new held held' outs outs' status ⊎ ((status ≡ 5) × Prints held held' outs outs' (stop_text stops.NoMemory))
 
 -- no count rose
 abbrev pub IsQuiet : ℕ → ℕ → ℕ → ℕ → ℕ → ℕ → Type 0

@@ -1,12 +1,12 @@
 //! The only client: its requests are opened, read, answered and kept back.
 
-ghost use Rattle.std.specs.Prelude.{◌≡◌, ◌≤◌, ◌⊎◌, ◌∷◌, [], ℕ, List, Some, None, IfOk, IfErr, IsErrOf, false, true, IsTrue};
-ghost use Rattle.std.specs.FinMap.{get};
+ghost use Rattle.std.specs.Prelude.{◌≡◌, ◌≤◌, ◌⊎◌, ◌∷◌, [], ℕ, List, Some, None, IfOk, IfErr, IsErrOf, OnErr, false, true, IsTrue};
+ghost use Rattle.std.specs.Io.KnownBytes.{Keeps};
 ghost use Rattle.pcg_base.specs.Causes.{Rose};
 ghost use Rattle.pcg_base.specs.Told.{IsLonger, KeepsFiles};
 ghost use Rattle.pcg_words.specs.Job.{answer_file, request_file};
 ghost use Rattle.pcg_serve.specs.Causes.{LongAt, StopsAt};
-ghost use Rattle.pcg_serve.specs.Headline.{ClientDoneAt, IsWhole, KeepsOthers};
+ghost use Rattle.pcg_serve.specs.Headline.{ClientDoneAt, IsWhole, KeepsOthers, UnansweredAt};
 ghost use Rattle.pcg_serve.specs.Ingests.{IsIngest};
 
 use crate::ingest::Ingest;
@@ -48,6 +48,7 @@ fn end_of(session: Session, broken: bool) -> Ended
 }
 
 /// Reads the requests and answers them.
+#[tactic(auto, using(crate::proofs::Unanswered::keeps_itself))]
 fn serve_stream<S: Source, K: Sink>(
     alloc: Global,
     ingest: &Ingest,
@@ -59,6 +60,7 @@ fn serve_stream<S: Source, K: Sink>(
     ensures write { IfOk result (λ e. e.fault ≡ Some Fault.WriteFault → Rose (K.faults sink.old) (K.faults sink.new)) }
     ensures kinds { IfErr result (λ stop. (stop ≡ Stop.NotBuilt) ⊎ (stop ≡ Stop.NoMemory)) }
     ensures long { IsErrOf result Stop.NotBuilt → IsLonger (S.left source.old) LIMIT }
+    ensures unwritten { OnErr result (Keeps (K.held sink.old) (K.held sink.new)) }
     ensures whole { IfOk result (λ e. e.fault ≡ None → IsWhole ingest.now (S.left source.old) (K.held sink.old) (K.held sink.new) e.session) }
     ensures reads { S.faults source.old ≤ S.faults source.new }
     ensures writes { K.faults sink.old ≤ K.faults sink.new }
@@ -80,7 +82,7 @@ fn serve_stream<S: Source, K: Sink>(
 }
 
 /// Opens the client's two files, answers its requests, and keeps both files back.
-#[tactic(auto, using(crate::proofs::Others::others_same, crate::proofs::Others::others_kept))]
+#[tactic(auto, using(crate::proofs::Others::others_same, crate::proofs::Others::others_kept, crate::proofs::Unanswered::same, crate::proofs::Unanswered::kept))]
 pub fn run_client<P: Place>(
     alloc: Global,
     ingest: &Ingest,
@@ -89,6 +91,7 @@ pub fn run_client<P: Place>(
 ) -> Result<Ended, Stop>
     requires { IsIngest ingest.now }
     ensures stop { IfErr result (λ stop. StopsAt (P.files place.old) stem.now (record { reads = P.read_faults place.old; writes = P.write_faults place.old; counts = P.counts place.old }) (record { reads = P.read_faults place.new; writes = P.write_faults place.new; counts = P.counts place.new }) stop) }
+    ensures unanswered { OnErr result (UnansweredAt (P.files place.old) stem.now (P.files place.new)) }
     ensures others { KeepsOthers (stem.now ∷ []) (P.files place.old) (P.files place.new) }
     ensures whole { IfOk result (λ e. e.fault ≡ None → ClientDoneAt ingest.now stem.now (P.files place.old) (P.files place.new) e.session) }
     ensures read { IfOk result (λ e. e.fault ≡ Some Fault.ReadFault → Rose (P.read_faults place.old) (P.read_faults place.new)) }
