@@ -1,6 +1,7 @@
 //! Request streams.
 
-ghost use Rattle.std.specs.Prelude.{◌≡◌, ◌≤◌, ◌++◌, ℕ, List, length, IfOk, OnOk};
+ghost use Rattle.std.specs.List.{list_any};
+ghost use Rattle.std.specs.Prelude.{◌≡◌, ◌==◌, ◌-◌, ◌⊎◌, false, take, drop, slice_index, ◌≤◌, ◌++◌, ℕ, List, length, IfOk, OnOk};
 ghost use Rattle.std.specs.Io.KnownBytes.{Consumes, IsAtEnd};
 ghost use Rattle.pcg_base.specs.Causes.{Rose};
 ghost use Rattle.pcg_base.specs.Told.{IsLonger};
@@ -66,18 +67,17 @@ pub fn read_stream<S: Source>(alloc: Global, from: &mut S, limit: u64) -> Result
     unreachable!()
 }
 
-/// The lines of a broken stream: its front up to the last line feed.
+/// The lines of a broken stream that a line feed ended: its front up to the last line feed.
 pub fn ended_part(bytes: &[u8]) -> &[u8]
     ensures size { length result.now ≤ length bytes.now }
+    ensures front { result.now ≡ take (length result.now) bytes.now }
+    ensures ended { (length result.now ≡ 0) ⊎ (slice_index bytes.now (length result.now - 1) ≡ 10) }
+    ensures rest { list_any (λ b. b == 10) (drop (length result.now) bytes.now) ≡ false }
 {
-    match bytes.iter().rposition(|b| *b == b'\n') {
-        Some(at) => {
-            let (front, _) = bytes.split_at(at + 1);
-            front
-        }
-        None => {
-            let (front, _) = bytes.split_at(0);
-            front
-        }
+    let mut end = bytes.len();
+    while end > 0 && bytes[end - 1] != b'\n' {
+        end -= 1;
     }
+    let (front, _) = bytes.split_at(end);
+    front
 }
