@@ -1,5 +1,5 @@
 -- Replies to single lines, over the log of the first entry.
-use Rattle.std.proofs.Common.{◌≡◌, ◌≤◌, ℕ, Bool, true, false, List, [], ◌∷◌, length, cond, Option, Some, None, refl, sym, ◌∙◌, ap, arith}
+use Rattle.std.proofs.Common.{◌≡◌, ℕ, Bool, true, false, List, length, cond, None, refl, sym, ◌∙◌, ap, arith}
 use Rattle.graph_model.specs.Lists.{has}
 use Rattle.op_model.specs.declared.Dataset.{Dataset}
 use Rattle.op_model.specs.declared.Base.{Base}
@@ -7,7 +7,6 @@ use Rattle.op_model.specs.declared.Entry.{Entry}
 use Rattle.op_model.specs.declared.Refusal.TheVariants.{NoSuchSupervoxel}
 use Rattle.op_model.specs.declared.Read.TheVariants as read
 use Rattle.op_model.specs.declared.Request.TheVariants as request
-use Rattle.op_model.specs.declared.Reply.{Reply}
 use Rattle.op_model.specs.declared.Reply.TheVariants as reply
 use Rattle.op_model.specs.Labels.{root}
 use Rattle.op_model.specs.Refusals.{first_of, prefix_for, refuse_time, refuse_first, refuse_unknown, refuse_read, refused}

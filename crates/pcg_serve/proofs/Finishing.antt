@@ -1,6 +1,6 @@
 -- One history behind what was printed and answered.
-use Rattle.std.proofs.Common.{◌≡◌, ◌≤◌, ◌<◌, ◌^◌, ℕ, ◌+◌, ◌-◌, Bool, true, false, List, [], ◌∷◌, ◌++◌, length, cond, Option, Some, None, refl, sym, ◌∙◌, ap, subst, arith, nat_le, add-zero, count_by}
-use Rattle.std.specs.Prelude.{⊤, ◌↔◌, IsTrue, Result, Ok, Err, IfOk}
+use Rattle.std.proofs.Common.{◌≡◌, ◌≤◌, ℕ, ◌+◌, ◌-◌, true, List, [], ◌∷◌, ◌++◌, length, cond, Option, Some, None, refl, sym, ◌∙◌, ap, subst, arith, add-zero, count_by}
+use Rattle.std.specs.Prelude.{◌↔◌, IsTrue}
 use Rattle.std.proofs.lemmas.Bool.{le-leb}
 use Rattle.std.specs.Io.KnownBytes.{Appends}
 use Rattle.graph_model.specs.Lists.{has}
@@ -11,10 +11,9 @@ use Rattle.op_model.specs.declared.Entry.{Entry}
 use Rattle.op_model.specs.declared.Reply.{Reply}
 use Rattle.op_model.specs.Edges.{linked}
 use Rattle.op_model.specs.Labels.{edges, root}
-use Rattle.op_model.specs.Operations.{first_entry}
 use Rattle.op_model.specs.Answers.{leaves}
 use Rattle.op_model.specs.Records.{records}
-use Rattle.op_model.specs.Refusals.{first_at, last_at, prefix_at}
+use Rattle.op_model.specs.Refusals.{first_at, prefix_at}
 use Rattle.op_model.specs.Legal.{Legal}
 use Rattle.op_model.proofs.RootLemmas.{roots_joined}
 use Rattle.pcg_serve.proofs.Leaves.{leaf_only, leaf_has}
@@ -22,6 +21,7 @@ use Rattle.plain_hierarchy.proofs.Fitting.{legal_small}
 use Rattle.request_lines.specs.Texts.{entry_text}
 use Rattle.pcg_base.specs.Told.{Files, KeepsFiles}
 use Rattle.pcg_words.specs.declared.job.RehearseJob.{RehearseJob}
+use Rattle.pcg_words.specs.Job.{request_file}
 use Rattle.pcg_base.specs.Causes.{Rose}
 use Rattle.pcg_serve.specs.declared.summary.Fault.{Fault}
 use Rattle.pcg_serve.specs.declared.summary.Fault.TheVariants as faults
@@ -31,9 +31,9 @@ use Rattle.pcg_serve.specs.declared.session.Session.{Session}
 use Rattle.pcg_serve.specs.declared.summary.Summary.{Summary}
 use Rattle.pcg_serve.specs.Ingests.{IsIngest, log_of}
 use Rattle.pcg_serve.specs.Jobs.{HasBase, dataset_of}
-use Rattle.pcg_serve.specs.Sessions.{asked_of, refuses, texts}
+use Rattle.pcg_serve.specs.Sessions.{refuses}
 use Rattle.pcg_serve.specs.Texts.{summary_line, summary_text}
-use Rattle.pcg_serve.specs.Headline.{log_text, live_roots, reply_count, refusal_count, answered, AllServed, RootsAreJoined, LeavesAreJoined, History, Done, DoneAt, IsDone, ClientDone, ClientDoneAt, CamePast, FaultCause, faults_of, fault_status}
+use Rattle.pcg_serve.specs.Headline.{log_text, live_roots, reply_count, refusal_count, answered, RootsAreJoined, LeavesAreJoined, History, DoneAt, IsDone, ClientDone, ClientDoneAt, ClientEndAt, OnlyClientEnds, CamePast, FaultCause, faults_of, fault_status}
 
 legal_of : (i : Ingest) → IsIngest i → Legal i.dataset i.base (log_of i)
 legal_of i ok =
@@ -135,12 +135,27 @@ caused None a b c h r w = tt
 caused (Some faults.ReadFault) a b c h r w = omega (arith, h.reads, r refl)
 caused (Some faults.WriteFault) a b c h r w = omega (arith, h.writes, w refl)
 
-pub came_past : (files : Option Files) (job : RehearseJob) (i : Ingest) (fault : Option Fault) (summary : Summary) (a b c : Seen) → IsIngest i → i.dataset ≡ dataset_of job → HasBase files job i.base
+ends_only : (files f1 f2 : Option Files) (left : List ℕ → List ℕ) (stem : List ℕ) (job : RehearseJob) (i : Ingest) (fault : Option Fault) (lines refused : ℕ) → i.dataset ≡ dataset_of job
+    → KeepsFiles files f1 → job.stems ≡ stem ∷ [] → ClientEndAt i.dataset i.base (log_of i) f1 f2 (left (request_file stem)) stem fault lines refused
+    → OnlyClientEnds (dataset_of job) i.base (log_of i) files f2 left job.stems fault lines refused
+ends_only files f1 f2 left stem job i fault lines refused made kept one ends =
+    let S : List (List ℕ) → Type 0 = λ stems. OnlyClientEnds (dataset_of job) i.base (log_of i) files f2 left stems fault lines refused in
+    let D : Dataset → Type 0 = λ d. ClientEndAt d i.base (log_of i) files f2 (left (request_file stem)) stem fault lines refused in
+    subst S (sym one) (subst D made (go files kept))
+  where
+    go : (f : Option Files) → KeepsFiles f f1 → ClientEndAt i.dataset i.base (log_of i) f f2 (left (request_file stem)) stem fault lines refused
+    go None k = tt
+    go (Some m) k =
+        let P : Option Files → Type 0 = λ x. ClientEndAt i.dataset i.base (log_of i) x f2 (left (request_file stem)) stem fault lines refused in
+        subst P k ends
+
+pub came_past : (files f1 f2 : Option Files) (left : List ℕ → List ℕ) (stem : List ℕ) (job : RehearseJob) (i : Ingest) (fault : Option Fault) (summary : Summary) (a b c : Seen) → IsIngest i → i.dataset ≡ dataset_of job → HasBase files job i.base
+    → KeepsFiles files f1 → job.stems ≡ stem ∷ [] → ClientEndAt i.dataset i.base (log_of i) f1 f2 (left (request_file stem)) stem fault summary.lines summary.refused
     → IsLater a b → (fault ≡ Some faults.ReadFault → Rose b.reads c.reads) → (fault ≡ Some faults.WriteFault → Rose b.writes c.writes)
     → summary.accepted ≡ 0 → summary.clients ≡ 1 → summary.entries ≡ 1 → summary.faults.items ≡ faults_of fault → summary.records ≡ i.records
     → summary.roots ≡ length i.entry.made → summary.status ≡ fault_status fault
-    → CamePast files job a c (entry_text i.entry ++ summary_text summary) summary.status
-came_past files job i fault summary a b c ok made base later r w h0 h1 h2 h3 h5 h7 h8 =
+    → CamePast files f2 left job a c (entry_text i.entry ++ summary_text summary) summary.status
+came_past files f1 f2 left stem job i fault summary a b c ok made base kept one ends later r w h0 h1 h2 h3 h5 h7 h8 =
     let L : Dataset → Type 0 = λ d. Legal d i.base (log_of i) in
     record {
       base = i.base;
@@ -152,5 +167,6 @@ came_past files job i fault summary a b c ok made base later r w h0 h1 h2 h3 h5 
       status = h8;
       lines = summary.lines;
       refused = summary.refused;
+      client = ends_only files f1 f2 left stem job i fault summary.lines summary.refused made kept one ends;
       text = text_past (dataset_of job) i.base i.entry fault summary h0 h1 h2 h3 (h5 ∙ ok.records ∙ ap (λ d. records d i.base (i.entry ∷ [])) made) h7 h8;
     }

@@ -1,7 +1,6 @@
 -- The leaves of a root, over the log of the first entry.
-use Rattle.std.proofs.Common.{◌≡◌, ℕ, Bool, true, false, List, [], ◌∷◌, map, cond, refl, sym, ◌∙◌, ap, subst, eqb, eq-eqb}
+use Rattle.std.proofs.Common.{◌≡◌, ℕ, true, List, [], ◌∷◌, map, cond, refl, sym, ◌∙◌, ap, subst, eqb, eq-eqb}
 use Rattle.std.proofs.lemmas.Bool.{eqb-true}
-use Rattle.std.specs.List.{filter}
 use Rattle.graph_model.specs.Lists.{has}
 use Rattle.graph_model.proofs.ListLemmas.{filter_has, filter_only}
 use Rattle.op_model.specs.declared.Dataset.{Dataset}

@@ -6,6 +6,7 @@ pub mod TableLemmas
 pub mod Transcribing
 pub mod ClientLemmas
 pub mod Leaves
+pub mod Ending
 pub mod Finishing
 pub mod Others
 pub mod Later

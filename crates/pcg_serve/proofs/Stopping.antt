@@ -1,6 +1,6 @@
 -- Why a client's session doesn't begin.
 use Rattle.std.proofs.Common.{◌≡◌, ℕ, List, Option, Some, None, subst, sym, ap}
-use Rattle.std.specs.Prelude.{◌⊎◌, ⊤, Result, Ok, Err, IfErr, IsErrOf}
+use Rattle.std.specs.Prelude.{◌⊎◌, Result, Ok, Err, IfErr, IsErrOf}
 use Rattle.std.proofs.Common.{inl, inr}
 use Rattle.pcg_base.specs.Told.{Files, TellsAt, IsLonger}
 use Rattle.pcg_words.specs.Job.{request_file}

@@ -1,13 +1,10 @@
 -- What the place's tables spell.
-use Rattle.std.proofs.Common.{◌≡◌, ◌≤◌, ◌<◌, ℕ, List, length, Option, Some, None, Vec, refl, sym, ◌∙◌, inl, inr, subst}
-use Rattle.std.specs.Prelude.{⊤, ◌⊎◌}
-use Rattle.std.specs.FinMap.{get}
+use Rattle.std.proofs.Common.{ℕ, List, Option, Some, None, Vec, inl, inr, subst}
 use Rattle.std.specs.declared.alloc.Global.{Global}
 use Rattle.op_model.specs.declared.Base.{Base}
 use Rattle.pcg_base.specs.Told.{Files, KeepsFiles}
 use Rattle.pcg_words.specs.declared.job.RehearseJob.{RehearseJob}
-use Rattle.table_ingest.specs.Plain.{base_of}
-use Rattle.pcg_serve.specs.Jobs.{HasTable, HasBase, MakesBase, MakesNone, dataset_of, limit}
+use Rattle.pcg_serve.specs.Jobs.{HasTable, HasBase, MakesBase, MakesNone}
 use Rattle.pcg_serve.specs.Causes.{HasNoBase}
 
 -- what a place tells stays the same while it is read

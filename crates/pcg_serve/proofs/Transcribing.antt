@@ -1,7 +1,6 @@
 -- Replies to lines, one by one, are a transcript.
-use Rattle.std.proofs.Common.{◌≡◌, ◌≤◌, ℕ, ◌+◌, Bool, true, false, List, [], ◌∷◌, ◌++◌, length, map, cond, Option, Some, None, refl, sym, ◌∙◌, ap, subst, arith, count_by}
-use Rattle.std.specs.Prelude.{⊤, option_to_list, is_some, reverse, ◌==◌}
-use Rattle.std.specs.List.{filter}
+use Rattle.std.proofs.Common.{◌≡◌, ℕ, ◌+◌, false, List, [], ◌∷◌, ◌++◌, cond, Option, Some, None, refl, sym, ◌∙◌, ap, subst, arith}
+use Rattle.std.specs.Prelude.{option_to_list, is_some, reverse, ◌==◌}
 use Rattle.std.specs.Io.KnownBytes.{Appends, Consumes, IsAtEnd}
 use Rattle.std.proofs.lemmas.List.{append-nil}
 use Rattle.op_model.specs.declared.Dataset.{Dataset}
@@ -15,7 +14,7 @@ use Rattle.op_model.specs.Transcript.{Line, Asks, Faulty, Unbuilt, Transcript, W
 use Rattle.pcg_serve.specs.declared.ingest.Ingest.{Ingest}
 use Rattle.pcg_serve.specs.declared.session.Session.{Session}
 use Rattle.pcg_serve.specs.Ingests.{IsIngest, log_of}
-use Rattle.pcg_serve.specs.Sessions.{Answers, Serves, Did, Wrote, asked_of, texts, refuses}
+use Rattle.pcg_serve.specs.Sessions.{Answers, Serves, Did, Wrote, asked_of, texts}
 use Rattle.pcg_serve.specs.Headline.{IsWhole, TakesAll}
 
 -- one reply before a transcript
@@ -61,6 +60,12 @@ written_all held held' written (Some r) e h = absurd (cc)
 no_last : (o : Option Reply) → is_some o ≡ false → o ≡ None
 no_last None e = refl
 no_last (Some r) e = absurd (cc)
+
+pub whole_transcript : (i : Ingest) → IsIngest i → (lines : List Line) (rs : List Reply) → Serves i.dataset i.base (log_of i) lines rs → WholeTranscript i.dataset i.base (log_of i) 1 lines rs
+whole_transcript i ok lines rs h =
+    let own : List Entry → Type 0 = λ es. Transcript i.dataset i.base (log_of i) 1 1 1 es lines rs in
+    subst own (sym (no_own i.dataset i.base i.entry (ap (λ (e : Entry). e.client) ok.entry ∙ client_of i.dataset i.base i.entry.at)))
+    (transcribes i.dataset i.base i.entry 1 lines rs h)
 
 pub is_whole : (i : Ingest) (left held held' : Option (List ℕ)) (stream : List ℕ) (s : Session) → IsIngest i → TakesAll left stream
     → Did i.dataset i.base (log_of i) (asked_of stream) held held' s → s.failed ≡ false → IsWhole i left held held' s

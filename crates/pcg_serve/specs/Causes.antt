@@ -99,9 +99,9 @@ StopCause m job old new stop =
 abbrev pub EndsSo : ℕ → ℕ → ℕ → ℕ → ℕ → Type 0
 EndsSo reads reads' writes writes' status = (status ≡ 0) ⊎ ((status ≡ 2) × Rose reads reads') ⊎ ((status ≡ 4) × Rose writes writes')
 
--- the status of a call of a rehearsal: the session's, unless its output failed
+-- the status of a call of a rehearsal: the session's, unless that is 0 and its output failed
 abbrev pub StatusSo : ℕ → ℕ → ℕ → ℕ → Type 0
-StatusSo outs outs' ended status = (status ≡ ended) ⊎ ((status ≡ 4) × Rose outs outs')
+StatusSo outs outs' ended status = (status ≡ ended) ⊎ ((ended ≡ 0) × (status ≡ 4) × Rose outs outs')
 
 -- the words spell a job whose input isn't read yet
 abbrev pub IsUnbuiltJob : Option Files → Option Job → Type 0

@@ -1,5 +1,5 @@
 -- What a call promises that was done: its output and answer files are those of one legal history.
-use Rattle.std.specs.Prelude.{◌≡◌, ◌≤◌, ℕ, ◌+◌, ◌-◌, ◌↔◌, ◌⊎◌, ⊤, Bool, false, not, bytes_eq, IsTrue, List, [], ◌∷◌, ◌++◌, length, count_by, Option, Some, None}
+use Rattle.std.specs.Prelude.{◌≡◌, ◌≤◌, ℕ, ◌+◌, ◌-◌, ◌==◌, ◌↔◌, ◌⊎◌, ⊤, Bool, true, false, not, bytes_eq, IsTrue, IsSome, option_to_list, slice_index, take, drop, List, [], ◌∷◌, ◌++◌, length, count_by, Option, Some, None}
 use Rattle.std.specs.List.{filter, list_any}
 use Rattle.std.specs.FinMap.{get, insert}
 use Rattle.graph_model.specs.Lists.{has}
@@ -15,19 +15,20 @@ use Rattle.op_model.specs.Records.{records}
 use Rattle.op_model.specs.Refusals.{first_at, last_at, prefix_at}
 use Rattle.op_model.specs.Legal.{Legal}
 use Rattle.op_model.specs.Transcript.{WholeTranscript}
-use Rattle.request_lines.specs.Texts.{entry_text}
+use Rattle.request_lines.specs.Texts.{entry_text, reply_text}
 use Rattle.pcg_base.specs.Causes.{Rose}
 use Rattle.pcg_base.specs.Told.{AppendsFront, Files, KeepsFiles}
 use Rattle.pcg_words.specs.declared.job.RehearseJob.{RehearseJob}
 use Rattle.pcg_words.specs.declared.job.Job.{Job}
 use Rattle.pcg_words.specs.declared.job.Job.TheVariants as job
 use Rattle.pcg_words.specs.Job.{request_file, answer_file}
-use Rattle.std.specs.Io.KnownBytes.{Appends}
+use Rattle.std.specs.Io.KnownBytes.{Appends, Consumes, IsAtEnd}
+use Rattle.pcg_serve.specs.declared.client.Ended.{Ended}
 use Rattle.pcg_serve.specs.declared.ingest.Ingest.{Ingest}
 use Rattle.pcg_serve.specs.declared.session.Session.{Session}
 use Rattle.pcg_serve.specs.Ingests.{log_of}
 use Rattle.pcg_serve.specs.Jobs.{HasBase, dataset_of}
-use Rattle.pcg_serve.specs.Sessions.{asked_of, refuses, texts}
+use Rattle.pcg_serve.specs.Sessions.{Did, asked_of, refuses, texts}
 use Rattle.pcg_serve.specs.declared.summary.Fault.{Fault}
 use Rattle.pcg_serve.specs.declared.summary.Fault.TheVariants as faults
 use Rattle.pcg_serve.specs.declared.summary.ClientFault.{ClientFault}
@@ -135,6 +136,56 @@ pub record IsWhole (i : Ingest) (left held held' : Option (List ℕ)) (s : Sessi
   pub count : s.lines ≡ length written
   pub noes : s.refused ≡ count_by refuses written
 
+-- the front of some bytes up to their last line feed
+pub record IsEndedPart (bytes part : List ℕ) : Type 0 where
+  pub front : part ≡ take (length part) bytes
+  pub ended : (length part ≡ 0) ⊎ (slice_index bytes (length part - 1) ≡ 10)
+  pub rest : list_any (λ b. b == 10) (drop (length part) bytes) ≡ false
+
+-- A session, whatever it ended in: what was taken of the stream, the bytes whose lines were served, and what it did. A stream that broke off is served up to its last line feed.
+pub record SessionEnd (i : Ingest) (left left' held held' : Option (List ℕ)) (e : Ended) : Type 0 where
+  pub taken : List ℕ
+  pub consumed : Consumes left left' taken
+  pub served : List ℕ
+  pub part : ((served ≡ taken) × IsAtEnd left') ⊎ IsEndedPart taken served
+  pub did : Did i.dataset i.base (log_of i) (asked_of served) held held' e.session
+  pub whole : e.fault ≡ None → (served ≡ taken) × IsAtEnd left'
+  pub failed : (e.session.failed ≡ true) ↔ (e.fault ≡ Some faults.WriteFault)
+
+-- an answer file has the texts of these replies, and a front of the text of the one whose writing failed
+abbrev pub HasTexts : List ℕ → List Reply → Option Reply → Type 0
+HasTexts answers written None = answers ≡ texts written
+HasTexts answers written (Some r) = (front rest : List ℕ) × (reply_text r ≡ front ++ rest) × (answers ≡ texts written ++ front)
+
+-- How a client's session ended: its requests are the bytes that were taken and those that the place keeps as left, its replies a transcript of what the served ones ask, and its answer file holds their texts.
+pub record ClientEnd (d : Dataset) (b : Base) (log : List Entry) (before after : Files) (left stem : List ℕ) (fault : Option Fault) (lines refused : ℕ) : Type 0 where
+  pub taken : List ℕ
+  pub stream : get before (request_file stem) ≡ Some (taken ++ left)
+  pub served : List ℕ
+  pub part : ((served ≡ taken) × (left ≡ [])) ⊎ IsEndedPart taken served
+  pub whole : fault ≡ None → (served ≡ taken) × (left ≡ [])
+  pub written : List Reply
+  pub last : Option Reply
+  pub transcript : WholeTranscript d b log 1 (asked_of served) (written ++ option_to_list last)
+  pub each : last ≡ None → length written ≡ length (asked_of served)
+  pub broke : IsSome last ↔ (fault ≡ Some faults.WriteFault)
+  pub answers : List ℕ
+  pub texts_so : HasTexts answers written last
+  pub files : after ≡ insert before (answer_file stem) answers
+  pub count : lines ≡ length written
+  pub noes : refused ≡ count_by refuses written
+
+-- where the place tells its bytes
+abbrev pub ClientEndAt : Dataset → Base → List Entry → Option Files → Option Files → List ℕ → List ℕ → Option Fault → ℕ → ℕ → Type 0
+ClientEndAt d b log None after left stem fault lines refused = ⊤
+ClientEndAt d b log (Some before) None left stem fault lines refused = ⊥
+ClientEndAt d b log (Some before) (Some after) left stem fault lines refused = ClientEnd d b log before after left stem fault lines refused
+
+-- the same of the only client; the place keeps what each request file has left
+abbrev pub OnlyClientEnds : Dataset → Base → List Entry → Option Files → Option Files → (List ℕ → List ℕ) → List (List ℕ) → Option Fault → ℕ → ℕ → Type 0
+OnlyClientEnds d b log files files' left [] fault lines refused = ⊥
+OnlyClientEnds d b log files files' left (stem ∷ stems) fault lines refused = ClientEndAt d b log files files' (left (request_file stem)) stem fault lines refused
+
 -- The only client was served, and its answers are the texts of its replies.
 pub record ClientDone (i : Ingest) (stem : List ℕ) (before after : Files) (s : Session) : Type 0 where
   pub written : List Reply
@@ -186,7 +237,7 @@ FaultCause (Some faults.ReadFault) old new = Rose old.reads new.reads
 FaultCause (Some faults.WriteFault) old new = Rose old.writes new.writes
 
 -- A call came past its sessions: the tables spell a base, and what is printed are the lines of a legal log over it and the summary.
-pub record CamePast (files : Option Files) (job : RehearseJob) (old new : Seen) (printed : List ℕ) (ended : ℕ) : Type 0 where
+pub record CamePast (files files' : Option Files) (left : List ℕ → List ℕ) (job : RehearseJob) (old new : Seen) (printed : List ℕ) (ended : ℕ) : Type 0 where
   pub base : Base
   pub has_base : HasBase files job base
   pub log : List Entry
@@ -196,6 +247,7 @@ pub record CamePast (files : Option Files) (job : RehearseJob) (old new : Seen) 
   pub status : ended ≡ fault_status fault
   pub lines : ℕ
   pub refused : ℕ
+  pub client : OnlyClientEnds (dataset_of job) base log files files' left job.stems fault lines refused
   pub text : printed ≡ log_text log
       ++ summary_line (length log - 1) 1 (length log) (faults_of fault) lines (records (dataset_of job) base log) refused (length (live_roots log)) (fault_status fault)
 
@@ -210,17 +262,17 @@ Unanswered files [] files' = KeepsFiles files files'
 Unanswered files (stem ∷ stems) files' = UnansweredAt files stem files'
 
 -- A call stopped before its sessions, by this cause, with this fault line alone and no answer; or it came past them, printed the log and the summary, and its status is that of the client's end or of its output.
-abbrev pub Outcome : Option Files → Option Files → RehearseJob → Seen → Seen → Option (List ℕ) → Option (List ℕ) → ℕ → ℕ → ℕ → Type 0
-Outcome files files' job old new held held' outs outs' status =
+abbrev pub Outcome : Option Files → Option Files → (List ℕ → List ℕ) → RehearseJob → Seen → Seen → Option (List ℕ) → Option (List ℕ) → ℕ → ℕ → ℕ → Type 0
+Outcome files files' left job old new held held' outs outs' status =
     ((stop : Stop) × (status ≡ status_of stop) × StopCause files job old new stop × Unanswered files job.stems files' × Prints held held' outs outs' (stop_text stop))
-    ⊎ ((ended : ℕ) × (printed : List ℕ) × CamePast files job old new printed ended × Prints held held' outs outs' printed × StatusSo outs outs' ended status)
+    ⊎ ((ended : ℕ) × (printed : List ℕ) × CamePast files files' left job old new printed ended × Prints held held' outs outs' printed × StatusSo outs outs' ended status)
 
 -- The same of words: they spell no job, or its outcome is this, or memory ran out over them.
-abbrev pub JobOutcome : Option Files → Option Files → Option Job → Seen → Seen → Option (List ℕ) → Option (List ℕ) → ℕ → ℕ → ℕ → Type 0
-JobOutcome files files' None old new held held' outs outs' status =
+abbrev pub JobOutcome : Option Files → Option Files → (List ℕ → List ℕ) → Option Job → Seen → Seen → Option (List ℕ) → Option (List ℕ) → ℕ → ℕ → ℕ → Type 0
+JobOutcome files files' left None old new held held' outs outs' status =
     ((status ≡ 1) × Prints held held' outs outs' (stop_text stops.BadWords)) ⊎ ((status ≡ 5) × Prints held held' outs outs' (stop_text stops.NoMemory))
-JobOutcome files files' (Some (job.Rehearse found)) old new held held' outs outs' status =
-    Outcome files files' found old new held held' outs outs' status ⊎ ((status ≡ 5) × Prints held held' outs outs' (stop_text stops.NoMemory))
+JobOutcome files files' left (Some (job.Rehearse found)) old new held held' outs outs' status =
+    Outcome files files' left found old new held held' outs outs' status ⊎ ((status ≡ 5) × Prints held held' outs outs' (stop_text stops.NoMemory))
 
 -- no count rose
 abbrev pub IsQuiet : ℕ → ℕ → ℕ → ℕ → ℕ → ℕ → Type 0

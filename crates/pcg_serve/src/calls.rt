@@ -31,7 +31,7 @@ pub fn run<P: Place, C: Clock + Sync, G: Gate + Sync, K: Sink>(
     ensures read { result ≡ 2 → Rose (P.read_faults place.old) (P.read_faults place.new) }
     ensures write { result ≡ 4 → Rose (P.write_faults place.old) (P.write_faults place.new) ⊎ Rose (K.faults out.old) (K.faults out.new) }
     ensures not_built { result ≡ 8 → IsUnbuiltJob (P.files place.old) (job_of words.now) }
-    ensures outcome { JobOutcome (P.files place.old) (P.files place.new) (job_of words.now) (record { reads = P.read_faults place.old; writes = P.write_faults place.old; counts = P.counts place.old }) (record { reads = P.read_faults place.new; writes = P.write_faults place.new; counts = P.counts place.new }) (K.held out.old) (K.held out.new) (K.faults out.old) (K.faults out.new) result }
+    ensures outcome { JobOutcome (P.files place.old) (P.files place.new) (P.left_at place.new) (job_of words.now) (record { reads = P.read_faults place.old; writes = P.write_faults place.old; counts = P.counts place.old }) (record { reads = P.read_faults place.new; writes = P.write_faults place.new; counts = P.counts place.new }) (K.held out.old) (K.held out.new) (K.faults out.old) (K.faults out.new) result }
     ensures complete { IsQuiet (P.read_faults place.old) (P.read_faults place.new) (P.write_faults place.old) (P.write_faults place.new) (K.faults out.old) (K.faults out.new)
         → job_of words.now ≢ None → ¬ (IsUnbuiltJob (P.files place.old) (job_of words.now)) → (result ≡ 0) ⊎ (result ≡ 5) }
     ensures bad_words_line { result ≡ 1 → Prints (K.held out.old) (K.held out.new) (K.faults out.old) (K.faults out.new) (stop_text Stop.BadWords) }
@@ -52,7 +52,7 @@ pub fn run<P: Place, C: Clock + Sync, G: Gate + Sync, K: Sink>(
 /// Does a job, by its mode.
 fn run_job<P: Place, K: Sink>(alloc: Global, job: &Job, place: &mut P, out: &mut K) -> u8
     requires { MeetsMode job.now }
-    ensures outcome { JobOutcome (P.files place.old) (P.files place.new) (Some job.now) (record { reads = P.read_faults place.old; writes = P.write_faults place.old; counts = P.counts place.old }) (record { reads = P.read_faults place.new; writes = P.write_faults place.new; counts = P.counts place.new }) (K.held out.old) (K.held out.new) (K.faults out.old) (K.faults out.new) result }
+    ensures outcome { JobOutcome (P.files place.old) (P.files place.new) (P.left_at place.new) (Some job.now) (record { reads = P.read_faults place.old; writes = P.write_faults place.old; counts = P.counts place.old }) (record { reads = P.read_faults place.new; writes = P.write_faults place.new; counts = P.counts place.new }) (K.held out.old) (K.held out.new) (K.faults out.old) (K.faults out.new) result }
     ensures done { result ≡ 0 → IsJobDone (Some job.now) (P.files place.old) (P.files place.new) (K.held out.old) (K.held out.new) }
     ensures known { (result ≡ 0) ⊎ (result ≡ 2) ⊎ (result ≡ 4) ⊎ (result ≡ 5) ⊎ (result ≡ 8) }
     ensures read { result ≡ 2 → Rose (P.read_faults place.old) (P.read_faults place.new) }

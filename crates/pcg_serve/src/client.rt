@@ -1,13 +1,13 @@
 //! The only client: its requests are opened, read, answered and kept back.
 
-ghost use Rattle.std.specs.Prelude.{◌≡◌, ◌≤◌, ◌⊎◌, ◌∷◌, [], ℕ, List, Some, None, IfOk, IfErr, IsErrOf, OnErr, false, true, IsTrue};
+ghost use Rattle.std.specs.Prelude.{◌≡◌, ◌≤◌, ◌⊎◌, ◌↔◌, ◌∷◌, [], ℕ, List, Some, None, IfOk, IfErr, IsErrOf, OnErr, false, true, IsTrue};
 ghost use Rattle.std.specs.Io.KnownBytes.{Keeps};
 ghost use Rattle.pcg_base.specs.Causes.{Rose};
 ghost use Rattle.pcg_base.specs.Told.{IsLonger, KeepsFiles};
 ghost use Rattle.pcg_words.specs.Job.{answer_file, request_file};
 ghost use Rattle.pcg_serve.specs.Causes.{LongAt, StopsAt};
-ghost use Rattle.pcg_serve.specs.Headline.{ClientDoneAt, IsWhole, KeepsOthers, UnansweredAt};
-ghost use Rattle.pcg_serve.specs.Ingests.{IsIngest};
+ghost use Rattle.pcg_serve.specs.Headline.{ClientDoneAt, ClientEndAt, IsWhole, KeepsOthers, SessionEnd, UnansweredAt};
+ghost use Rattle.pcg_serve.specs.Ingests.{IsIngest, log_of};
 
 use crate::ingest::Ingest;
 use crate::session::{Session, serve};
@@ -34,6 +34,7 @@ pub struct Ended {
 fn end_of(session: Session, broken: bool) -> Ended
     ensures session { result.session ≡ session }
     ensures none { result.fault ≡ None → (session.failed ≡ false) × (broken ≡ false) }
+    ensures failed { (session.failed ≡ true) ↔ (result.fault ≡ Some Fault.WriteFault) }
     ensures read { result.fault ≡ Some Fault.ReadFault → IsTrue broken }
     ensures write { result.fault ≡ Some Fault.WriteFault → IsTrue session.failed }
 {
@@ -60,6 +61,7 @@ fn serve_stream<S: Source, K: Sink>(
     ensures write { IfOk result (λ e. e.fault ≡ Some Fault.WriteFault → Rose (K.faults sink.old) (K.faults sink.new)) }
     ensures kinds { IfErr result (λ stop. (stop ≡ Stop.NotBuilt) ⊎ (stop ≡ Stop.NoMemory)) }
     ensures long { IsErrOf result Stop.NotBuilt → IsLonger (S.left source.old) LIMIT }
+    ensures ended { IfOk result (λ e. SessionEnd ingest.now (S.left source.old) (S.left source.new) (K.held sink.old) (K.held sink.new) e) }
     ensures unwritten { OnErr result (Keeps (K.held sink.old) (K.held sink.new)) }
     ensures whole { IfOk result (λ e. e.fault ≡ None → IsWhole ingest.now (S.left source.old) (K.held sink.old) (K.held sink.new) e.session) }
     ensures reads { S.faults source.old ≤ S.faults source.new }
@@ -91,6 +93,7 @@ pub fn run_client<P: Place>(
 ) -> Result<Ended, Stop>
     requires { IsIngest ingest.now }
     ensures stop { IfErr result (λ stop. StopsAt (P.files place.old) stem.now (record { reads = P.read_faults place.old; writes = P.write_faults place.old; counts = P.counts place.old }) (record { reads = P.read_faults place.new; writes = P.write_faults place.new; counts = P.counts place.new }) stop) }
+    ensures ended { IfOk result (λ e. ClientEndAt ingest.now.dataset ingest.now.base (log_of ingest.now) (P.files place.old) (P.files place.new) (P.left_at place.new (request_file stem.now)) stem.now e.fault e.session.lines e.session.refused) }
     ensures unanswered { OnErr result (UnansweredAt (P.files place.old) stem.now (P.files place.new)) }
     ensures others { KeepsOthers (stem.now ∷ []) (P.files place.old) (P.files place.new) }
     ensures whole { IfOk result (λ e. e.fault ≡ None → ClientDoneAt ingest.now stem.now (P.files place.old) (P.files place.new) e.session) }

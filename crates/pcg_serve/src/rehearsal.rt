@@ -107,7 +107,7 @@ fn rehearse<P: Place>(alloc: Global, job: &RehearseJob, place: &mut P) -> Result
     ensures stop { IfErr result (λ stop. StopCause (P.files place.old) job.now (record { reads = P.read_faults place.old; writes = P.write_faults place.old; counts = P.counts place.old }) (record { reads = P.read_faults place.new; writes = P.write_faults place.new; counts = P.counts place.new }) stop) }
     ensures done { IfOk result (λ r. r.summary.status ≡ 0 → DoneAt job.now (P.files place.old) (P.files place.new) (entry_text r.ingest.entry ++ summary_text r.summary)) }
     ensures unanswered { OnErr result (Unanswered (P.files place.old) job.now.stems (P.files place.new)) }
-    ensures came { IfOk result (λ r. CamePast (P.files place.old) job.now (record { reads = P.read_faults place.old; writes = P.write_faults place.old; counts = P.counts place.old }) (record { reads = P.read_faults place.new; writes = P.write_faults place.new; counts = P.counts place.new }) (entry_text r.ingest.entry ++ summary_text r.summary) r.summary.status) }
+    ensures came { IfOk result (λ r. CamePast (P.files place.old) (P.files place.new) (P.left_at place.new) job.now (record { reads = P.read_faults place.old; writes = P.write_faults place.old; counts = P.counts place.old }) (record { reads = P.read_faults place.new; writes = P.write_faults place.new; counts = P.counts place.new }) (entry_text r.ingest.entry ++ summary_text r.summary) r.summary.status) }
     ensures others { KeepsOthers job.now.stems (P.files place.old) (P.files place.new) }
     ensures status { IfOk result (λ r. EndsSo (P.read_faults place.old) (P.read_faults place.new) (P.write_faults place.old) (P.write_faults place.new) r.summary.status) }
     ensures reads { P.read_faults place.old ≤ P.read_faults place.new }
@@ -182,7 +182,7 @@ pub fn run_rehearse<P: Place, K: Sink>(
     ensures read { result ≡ 2 → Rose (P.read_faults place.old) (P.read_faults place.new) }
     ensures write { result ≡ 4 → Rose (P.write_faults place.old) (P.write_faults place.new) ⊎ Rose (K.faults out.old) (K.faults out.new) }
     ensures not_built { result ≡ 8 → IsUnbuilt (P.files place.old) job.now }
-    ensures outcome { Outcome (P.files place.old) (P.files place.new) job.now (record { reads = P.read_faults place.old; writes = P.write_faults place.old; counts = P.counts place.old }) (record { reads = P.read_faults place.new; writes = P.write_faults place.new; counts = P.counts place.new }) (K.held out.old) (K.held out.new) (K.faults out.old) (K.faults out.new) result }
+    ensures outcome { Outcome (P.files place.old) (P.files place.new) (P.left_at place.new) job.now (record { reads = P.read_faults place.old; writes = P.write_faults place.old; counts = P.counts place.old }) (record { reads = P.read_faults place.new; writes = P.write_faults place.new; counts = P.counts place.new }) (K.held out.old) (K.held out.new) (K.faults out.old) (K.faults out.new) result }
     ensures not_built_line { result ≡ 8 → Prints (K.held out.old) (K.held out.new) (K.faults out.old) (K.faults out.new) (stop_text Stop.NotBuilt) }
     ensures no_memory_line { result ≡ 5 → Prints (K.held out.old) (K.held out.new) (K.faults out.old) (K.faults out.new) (stop_text Stop.NoMemory) }
     ensures others { KeepsOthers job.now.stems (P.files place.old) (P.files place.new) }

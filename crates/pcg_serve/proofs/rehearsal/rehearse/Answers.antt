@@ -1,3 +1,7 @@
+use Rattle.std.proofs.Common.{ℕ, sym, subst}
+use Rattle.pcg_words.specs.Job.{request_file}
+use Rattle.pcg_serve.specs.Headline.{ClientEndAt}
+use Rattle.pcg_serve.specs.Ingests.{log_of}
 use Rattle.pcg_serve.proofs.Finishing.{came_past, done_at}
 use Rattle.pcg_serve.proofs.rehearsal.rehearse.Goals as goal
 
@@ -12,9 +16,14 @@ returns-clause-done g c = λ zero.
 pub returns-clause-came : goal.returns-clause-came
 returns-clause-came g c =
     let of = c.summary_of-summary.ensures in
-    came_past (g.P.Place.files c.args.place.now) c.args.job.now c.in_ok-ingest.ingest c.in_ok-ended.ended.fault c.summary_of-summary.result
+    let e = c.in_ok-ended.ended in
+    let i = c.in_ok-ingest.ingest in
+    let E : ℕ → Type 0 = λ n. ClientEndAt i.dataset i.base (log_of i) (g.P.Place.files c.read_tables.new.place) (g.P.Place.files c.run_client.new.place) (g.P.Place.left_at c.run_client.new.place (request_file c.in-Some.stem.now)) c.in-Some.stem.now e.fault n e.session.refused in
+    let F : ℕ → Type 0 = λ n. ClientEndAt i.dataset i.base (log_of i) (g.P.Place.files c.read_tables.new.place) (g.P.Place.files c.run_client.new.place) (g.P.Place.left_at c.run_client.new.place (request_file c.in-Some.stem.now)) c.in-Some.stem.now e.fault c.summary_of-summary.result.lines n in
+    let ends = subst F (sym of.refused) (subst E (sym of.lines) c.in_ok-ended.ensures.ended) in
+    came_past (g.P.Place.files c.args.place.now) (g.P.Place.files c.read_tables.new.place) (g.P.Place.files c.run_client.new.place) (g.P.Place.left_at c.run_client.new.place) c.in-Some.stem.now c.args.job.now c.in_ok-ingest.ingest c.in_ok-ended.ended.fault c.summary_of-summary.result
     (record { reads = g.P.Place.read_faults c.args.place.now; writes = g.P.Place.write_faults c.args.place.now; counts = g.P.Place.counts c.args.place.now })
     (record { reads = g.P.Place.read_faults c.read_tables.new.place; writes = g.P.Place.write_faults c.read_tables.new.place; counts = g.P.Place.counts c.read_tables.new.place })
     (record { reads = g.P.Place.read_faults c.run_client.new.place; writes = g.P.Place.write_faults c.run_client.new.place; counts = g.P.Place.counts c.run_client.new.place })
-    c.in_ok-ingest.ensures.made c.in_ok-ingest.ensures.dataset c.in_ok-ingest.ensures.base c.read_tables.ensures.later
+    c.in_ok-ingest.ensures.made c.in_ok-ingest.ensures.dataset c.in_ok-ingest.ensures.base c.read_tables.ensures.files c.in-Some.ensures.one ends c.read_tables.ensures.later
     c.in_ok-ended.ensures.read c.in_ok-ended.ensures.write of.one.0 of.one.1 of.one.2 of.all_faults of.records of.roots of.status

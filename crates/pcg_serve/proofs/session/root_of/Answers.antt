@@ -1,5 +1,5 @@
 use Rattle.std.proofs.Common.{rules}
-use Rattle.pcg_serve.proofs.Answering.{answers_root, answers_unknown, answers_memory}
+use Rattle.pcg_serve.proofs.Answering.{answers_root, answers_unknown}
 use Rattle.pcg_serve.proofs.session.root_of.Goals as goal
 
 pub returns-then-not-contains : goal.returns-then-not-contains
