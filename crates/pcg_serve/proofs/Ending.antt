@@ -84,6 +84,7 @@ client_end i stem requests answers (Some m) f1 f2 f3 f4 before after held held' 
     subst G (sym (put ∙ ap (λ z. Some z) last)) (record {
       taken = w.taken;
       stream = ap (get m) (sym er) ∙ told_part m requests before after w.taken left t1 w.consumed rest;
+      size = w.size;
       served = w.served;
       part = part_so w.taken w.served after left rest w.part;
       whole = λ none. let h = w.whole none in (h.0, ends_there after left rest h.1);

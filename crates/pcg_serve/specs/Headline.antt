@@ -146,6 +146,7 @@ pub record IsEndedPart (bytes part : List ℕ) : Type 0 where
 pub record SessionEnd (i : Ingest) (left left' held held' : Option (List ℕ)) (e : Ended) : Type 0 where
   pub taken : List ℕ
   pub consumed : Consumes left left' taken
+  pub size : length taken ≤ 65536
   pub served : List ℕ
   pub part : ((served ≡ taken) × IsAtEnd left') ⊎ IsEndedPart taken served
   pub did : Did i.dataset i.base (log_of i) (asked_of served) held held' e.session
@@ -157,10 +158,11 @@ abbrev pub HasTexts : List ℕ → List Reply → Option Reply → Type 0
 HasTexts answers written None = answers ≡ texts written
 HasTexts answers written (Some r) = (front rest : List ℕ) × (reply_text r ≡ front ++ rest) × (answers ≡ texts written ++ front)
 
--- How a client's session ended: its requests are the bytes that were taken and those that the place keeps as left, its replies a transcript of what the served ones ask, and its answer file holds their texts.
+-- How a client's session ended: its requests are the bytes that were taken, no more than are read of a stream, and those that the place keeps as left, its replies a transcript of what the served ones ask, and its answer file holds their texts.
 pub record ClientEnd (d : Dataset) (b : Base) (log : List Entry) (before after : Files) (left stem : List ℕ) (fault : Option Fault) (lines refused : ℕ) : Type 0 where
   pub taken : List ℕ
   pub stream : get before (request_file stem) ≡ Some (taken ++ left)
+  pub size : length taken ≤ 65536
   pub served : List ℕ
   pub part : ((served ≡ taken) × (left ≡ [])) ⊎ IsEndedPart taken served
   pub whole : fault ≡ None → (served ≡ taken) × (left ≡ [])
