@@ -25,7 +25,7 @@ use Rattle.pcg_words.specs.Job.{request_file}
 use Rattle.pcg_base.specs.Causes.{Rose}
 use Rattle.pcg_serve.specs.declared.summary.Fault.{Fault}
 use Rattle.pcg_serve.specs.declared.summary.Fault.TheVariants as faults
-use Rattle.pcg_serve.specs.Causes.{Seen, IsLater}
+use Rattle.pcg_serve.specs.Causes.{Seen, IsLater, has_one_client}
 use Rattle.pcg_serve.specs.declared.ingest.Ingest.{Ingest}
 use Rattle.pcg_serve.specs.declared.session.Session.{Session}
 use Rattle.pcg_serve.specs.declared.summary.Summary.{Summary}
@@ -150,14 +150,15 @@ ends_only files f1 f2 left stem job i fault lines refused made kept one ends =
         subst P k ends
 
 pub came_past : (files f1 f2 : Option Files) (left : List ℕ → List ℕ) (stem : List ℕ) (job : RehearseJob) (i : Ingest) (fault : Option Fault) (summary : Summary) (a b c : Seen) → IsIngest i → i.dataset ≡ dataset_of job → HasBase files job i.base
-    → KeepsFiles files f1 → job.stems ≡ stem ∷ [] → ClientEndAt i.dataset i.base (log_of i) f1 f2 (left (request_file stem)) stem fault summary.lines summary.refused
+    → KeepsFiles files f1 → has_one_client job ≡ true → job.stems ≡ stem ∷ [] → ClientEndAt i.dataset i.base (log_of i) f1 f2 (left (request_file stem)) stem fault summary.lines summary.refused
     → IsLater a b → (fault ≡ Some faults.ReadFault → Rose b.reads c.reads) → (fault ≡ Some faults.WriteFault → Rose b.writes c.writes)
     → summary.accepted ≡ 0 → summary.clients ≡ 1 → summary.entries ≡ 1 → summary.faults.items ≡ faults_of fault → summary.records ≡ i.records
     → summary.roots ≡ length i.entry.made → summary.status ≡ fault_status fault
     → CamePast files f2 left job a c (entry_text i.entry ++ summary_text summary) summary.status
-came_past files f1 f2 left stem job i fault summary a b c ok made base kept one ends later r w h0 h1 h2 h3 h5 h7 h8 =
+came_past files f1 f2 left stem job i fault summary a b c ok made base kept sole one ends later r w h0 h1 h2 h3 h5 h7 h8 =
     let L : Dataset → Type 0 = λ d. Legal d i.base (log_of i) in
     record {
+      only = sole;
       base = i.base;
       has_base = base;
       log = log_of i;

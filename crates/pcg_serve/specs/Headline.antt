@@ -35,7 +35,7 @@ use Rattle.pcg_serve.specs.declared.summary.ClientFault.{ClientFault}
 use Rattle.pcg_serve.specs.declared.stops.Stop.{Stop}
 use Rattle.pcg_serve.specs.declared.stops.Stop.TheVariants as stops
 use Rattle.pcg_serve.specs.Statuses.{status_of}
-use Rattle.pcg_serve.specs.Causes.{Seen, StopCause, StatusSo}
+use Rattle.pcg_serve.specs.Causes.{Seen, StopCause, StatusSo, has_one_client}
 use Rattle.pcg_serve.specs.Texts.{stop_text, summary_line}
 
 -- the lines of a log, its oldest entry first
@@ -238,8 +238,9 @@ FaultCause None old new = ⊤
 FaultCause (Some faults.ReadFault) old new = Rose old.reads new.reads
 FaultCause (Some faults.WriteFault) old new = Rose old.writes new.writes
 
--- A call came past its sessions: the tables spell a base, and what is printed are the lines of a legal log over it and the summary.
+-- A call came past its sessions: its job has one client and no schedule, the tables spell a base, and what is printed are the lines of a legal log over it and the summary.
 pub record CamePast (files files' : Option Files) (left : List ℕ → List ℕ) (job : RehearseJob) (old new : Seen) (printed : List ℕ) (ended : ℕ) : Type 0 where
+  pub only : has_one_client job ≡ true
   pub base : Base
   pub has_base : HasBase files job base
   pub log : List Entry

@@ -34,6 +34,7 @@ struct Rehearsed {
 /// The only client's stem, where the job has one client and no schedule.
 fn only_client(job: &RehearseJob) -> Option<&Name>
     ensures one { IfSome result (λ stem. job.now.stems ≡ stem.now ∷ []) }
+    ensures only { IfSome result (λ stem. has_one_client job.now ≡ true) }
     ensures none { IfNone result (has_one_client job.now ≡ false) }
 {
     if job.schedule.is_some() || job.stems.list.len() != 1 {
