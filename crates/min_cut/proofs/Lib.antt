@@ -1,0 +1,11 @@
+pub mod Moves
+pub mod Pushing
+pub mod Levels
+pub mod Adjacent
+pub mod Reaching
+pub mod Marking
+pub mod Placing
+pub mod Climbing
+pub mod Queued
+pub mod Flowing
+pub mod Assembled
