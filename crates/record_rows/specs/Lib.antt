@@ -1,0 +1,10 @@
+pub mod Rows
+pub mod Chains
+pub mod Words
+pub mod LogRows
+pub mod Images
+pub mod Growth
+pub mod Versions
+pub mod Laws
+pub mod Samples
+pub mod Worked
