@@ -1,5 +1,5 @@
 -- One history behind what was printed and answered.
-use Rattle.std.proofs.Common.{◌≡◌, ◌≤◌, ℕ, ◌+◌, ◌-◌, true, List, [], ◌∷◌, ◌++◌, length, cond, Option, Some, None, refl, sym, ◌∙◌, ap, subst, arith, add-zero, count_by}
+use Rattle.std.proofs.Common.{◌≡◌, ◌≤◌, ℕ, ◌+◌, ◌-◌, true, List, [], ◌∷◌, ◌++◌, length, cond, Option, Some, None, refl, sym, ◌∙◌, ap, subst, arith, inl, inr, add-zero, count_by}
 use Rattle.std.specs.Prelude.{◌↔◌, IsTrue}
 use Rattle.std.proofs.lemmas.Bool.{le-leb}
 use Rattle.std.specs.Io.KnownBytes.{Appends}
@@ -17,20 +17,19 @@ use Rattle.op_model.specs.Refusals.{first_at, prefix_at}
 use Rattle.op_model.specs.Legal.{Legal}
 use Rattle.op_model.proofs.RootLemmas.{roots_joined}
 use Rattle.pcg_serve.proofs.Leaves.{leaf_only, leaf_has}
+use Rattle.pcg_serve.proofs.Causing.{caused}
 use Rattle.plain_hierarchy.proofs.Fitting.{legal_small}
 use Rattle.request_lines.specs.Texts.{entry_text}
 use Rattle.pcg_base.specs.Told.{Files, KeepsFiles}
 use Rattle.pcg_words.specs.declared.job.RehearseJob.{RehearseJob}
 use Rattle.pcg_words.specs.Job.{request_file}
-use Rattle.pcg_base.specs.Causes.{Rose}
 use Rattle.pcg_serve.specs.declared.summary.Fault.{Fault}
-use Rattle.pcg_serve.specs.declared.summary.Fault.TheVariants as faults
 use Rattle.pcg_serve.specs.Causes.{Seen, IsLater, has_one_client}
 use Rattle.pcg_serve.specs.declared.ingest.Ingest.{Ingest}
 use Rattle.pcg_serve.specs.declared.session.Session.{Session}
 use Rattle.pcg_serve.specs.declared.summary.Summary.{Summary}
 use Rattle.pcg_serve.specs.Ingests.{IsIngest, log_of}
-use Rattle.pcg_serve.specs.Jobs.{HasBase, dataset_of}
+use Rattle.pcg_serve.specs.Jobs.{HasBase, IsLarge, dataset_of}
 use Rattle.pcg_serve.specs.Sessions.{refuses}
 use Rattle.pcg_serve.specs.Texts.{summary_line, summary_text}
 use Rattle.pcg_serve.specs.Headline.{log_text, live_roots, reply_count, refusal_count, answered, RootsAreJoined, LeavesAreJoined, History, DoneAt, IsDone, ClientDone, ClientDoneAt, ClientEndAt, OnlyClientEnds, CamePast, FaultCause, faults_of, fault_status}
@@ -129,12 +128,6 @@ text_past d b e fault s h0 h1 h2 h3 h5 h7 h8 =
     ∙ ap (λ n. summary_line 0 1 1 (faults_of fault) s.lines (records d b (e ∷ [])) s.refused n s.status) h7
     ∙ ap (λ n. summary_line 0 1 1 (faults_of fault) s.lines (records d b (e ∷ [])) s.refused (length e.made) n) h8)
 
--- a fault's cause, where the counts that rose behind rose from before
-caused : (fault : Option Fault) (a b c : Seen) → IsLater a b → (fault ≡ Some faults.ReadFault → Rose b.reads c.reads) → (fault ≡ Some faults.WriteFault → Rose b.writes c.writes) → FaultCause fault a c
-caused None a b c h r w = tt
-caused (Some faults.ReadFault) a b c h r w = omega (arith, h.reads, r refl)
-caused (Some faults.WriteFault) a b c h r w = omega (arith, h.writes, w refl)
-
 ends_only : (files f1 f2 : Option Files) (left : List ℕ → List ℕ) (stem : List ℕ) (job : RehearseJob) (i : Ingest) (fault : Option Fault) (lines refused : ℕ) → i.dataset ≡ dataset_of job
     → KeepsFiles files f1 → job.stems ≡ stem ∷ [] → ClientEndAt i.dataset i.base (log_of i) f1 f2 (left (request_file stem)) stem fault lines refused
     → OnlyClientEnds (dataset_of job) i.base (log_of i) files f2 left job.stems fault lines refused
@@ -149,22 +142,27 @@ ends_only files f1 f2 left stem job i fault lines refused made kept one ends =
         let P : Option Files → Type 0 = λ x. ClientEndAt i.dataset i.base (log_of i) x f2 (left (request_file stem)) stem fault lines refused in
         subst P k ends
 
+not_large : (b : Base) → (length b.supervoxels ≤ 255) × (length b.edges ≤ 1000) → ¬ (IsLarge b)
+not_large b h (inl more) = omega (arith, h.0, more)
+not_large b h (inr more) = omega (arith, h.1, more)
+
 pub came_past : (files f1 f2 : Option Files) (left : List ℕ → List ℕ) (stem : List ℕ) (job : RehearseJob) (i : Ingest) (fault : Option Fault) (summary : Summary) (a b c : Seen) → IsIngest i → i.dataset ≡ dataset_of job → HasBase files job i.base
     → KeepsFiles files f1 → has_one_client job ≡ true → job.stems ≡ stem ∷ [] → ClientEndAt i.dataset i.base (log_of i) f1 f2 (left (request_file stem)) stem fault summary.lines summary.refused
-    → IsLater a b → (fault ≡ Some faults.ReadFault → Rose b.reads c.reads) → (fault ≡ Some faults.WriteFault → Rose b.writes c.writes)
+    → IsLater a b → FaultCause fault stem b c
     → summary.accepted ≡ 0 → summary.clients ≡ 1 → summary.entries ≡ 1 → summary.faults.items ≡ faults_of fault → summary.records ≡ i.records
     → summary.roots ≡ length i.entry.made → summary.status ≡ fault_status fault
     → CamePast files f2 left job a c (entry_text i.entry ++ summary_text summary) summary.status
-came_past files f1 f2 left stem job i fault summary a b c ok made base kept sole one ends later r w h0 h1 h2 h3 h5 h7 h8 =
+came_past files f1 f2 left stem job i fault summary a b c ok made base kept sole one ends later why h0 h1 h2 h3 h5 h7 h8 =
     let L : Dataset → Type 0 = λ d. Legal d i.base (log_of i) in
     record {
       only = sole;
       base = i.base;
       has_base = base;
+      small = not_large i.base ok.small;
       log = log_of i;
       legal = subst L made (legal_of i ok);
       fault = fault;
-      cause = caused fault a b c later r w;
+      cause = caused fault stem job.stems a b c one later why;
       status = h8;
       lines = summary.lines;
       refused = summary.refused;

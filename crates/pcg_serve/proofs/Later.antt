@@ -58,7 +58,7 @@ later_then a b c h k = record {
       };
 }
 
-rose_after : (a b c : ℕ) → a ≤ b → Rose b c → Rose a c
+pub rose_after : (a b c : ℕ) → a ≤ b → Rose b c → Rose a c
 rose_after a b c h k = omega (arith, h, k)
 
 -- what rose behind rose from before

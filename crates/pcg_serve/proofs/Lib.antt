@@ -7,7 +7,8 @@ pub mod Transcribing
 pub mod ClientLemmas
 pub mod Leaves
 pub mod Ending
+pub mod Exact
+pub mod Causing
 pub mod Finishing
 pub mod Others
 pub mod Later
-pub mod Unanswered

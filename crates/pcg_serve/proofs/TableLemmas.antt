@@ -1,40 +1,98 @@
--- What the place's tables spell.
-use Rattle.std.proofs.Common.{ℕ, List, Option, Some, None, Vec, inl, inr, subst}
-use Rattle.std.specs.declared.alloc.Global.{Global}
+-- What the place's tables spell, and why they were not read.
+use Rattle.std.proofs.Common.{◌≡◌, ◌≤◌, ◌<◌, ℕ, List, length, Bool, true, false, Option, Some, None, bytes_eq, refl, sym, ◌∙◌, ap, inl, inr, subst}
+use Rattle.pcg_serve.specs.declared.ingest.Ingest.{Ingest}
+use Rattle.std.specs.Prelude.{Result, Ok, Err, IfOk, ◌⊎◌, ◌≢◌, ◌||◌, ◌&&◌, not, IsTrue}
+use Rattle.std.proofs.lemmas.Bool.{false≢true}
+use Rattle.std.specs.FinMap.{get}
+use Rattle.std.specs.List.{list_any}
+use Rattle.std.proofs.lemmas.Slice.Eq.{bytes_eq-Decides}
 use Rattle.op_model.specs.declared.Base.{Base}
-use Rattle.pcg_base.specs.Told.{Files, KeepsFiles}
+use Rattle.pcg_base.specs.Told.{Files, KeepsFiles, IsLongerAt}
 use Rattle.pcg_words.specs.declared.job.RehearseJob.{RehearseJob}
-use Rattle.pcg_serve.specs.Jobs.{HasTable, HasBase, MakesBase, MakesNone}
-use Rattle.pcg_serve.specs.Causes.{HasNoBase}
+use Rattle.pcg_words.specs.Job.{IsJob, all_differ, job_files}
+use Rattle.table_ingest.specs.Bases.{Spells}
+use Rattle.pcg_serve.specs.declared.stops.FileName.TheVariants as files
+use Rattle.pcg_serve.specs.declared.stops.Stop.{Stop}
+use Rattle.pcg_serve.specs.declared.stops.Stop.TheVariants as stops
+use Rattle.pcg_serve.specs.Jobs.{HasTable, HasBase, dataset_of, table_limit}
+use Rattle.pcg_serve.specs.Ingests.{MakesStop}
+use Rattle.pcg_serve.specs.Causes.{Seen, IsLater, HasFault, ReadRose, TableStop, TablesStop, WasRead}
+use Rattle.pcg_serve.proofs.Later.{read_after}
 
 -- what a place tells stays the same while it is read
-kept : (old new : Option Files) (name : List ℕ) (t : Option (Vec ℕ Global)) → KeepsFiles old new → HasTable new name t → HasTable old name t
-kept None new name t k h = tt
-kept (Some m) new name t k h =
-    let P : Option Files → Type 0 = λ f. HasTable f name t in
+kept : (old new : Option Files) (name bytes : List ℕ) → KeepsFiles old new → HasTable new name bytes → HasTable old name bytes
+kept None new name bytes k h = tt
+kept (Some m) new name bytes k h =
+    let P : Option Files → Type 0 = λ f. HasTable f name bytes in
     subst P k h
 
-pub spelled : (old new : Option Files) (job : RehearseJob) (s e : Option (Vec ℕ Global)) (base : Base) → KeepsFiles old new
-    → HasTable old job.supervoxels s → HasTable new job.edges e → MakesBase job s e base → HasBase old job base
-spelled None new job s e base k hs he m = tt
-spelled (Some f) new job None e base k hs he m = absurd m
-spelled (Some f) new job (Some s) None base k hs he m = absurd m
-spelled (Some f) new job (Some s) (Some e) base k hs he m =
-    let h : HasTable (Some f) job.edges (Some e) = kept (Some f) new job.edges (Some e) k he in
-    (s.items, e.items, (hs.0, h.0), hs.1, h.1, m)
+kept_long : (old new : Option Files) (name : List ℕ) (limit : ℕ) → KeepsFiles old new → IsLongerAt new name limit → IsLongerAt old name limit
+kept_long None new name limit k h = tt
+kept_long (Some m) new name limit k h =
+    let P : Option Files → Type 0 = λ f. IsLongerAt f name limit in
+    subst P k h
 
-pub unspelled : (old new : Option Files) (job : RehearseJob) (s e : Option (Vec ℕ Global)) → KeepsFiles old new
-    → HasTable old job.supervoxels s → HasTable new job.edges e → MakesNone job s e → HasNoBase old job
-unspelled None new job s e k hs he m = tt
-unspelled (Some f) new job None None k hs he m =
-    let h : HasTable (Some f) job.edges None = kept (Some f) new job.edges None k he in
-    (hs.0, h.0, (hs.1, h.1), inl hs.2)
-unspelled (Some f) new job None (Some e) k hs he m =
-    let h : HasTable (Some f) job.edges (Some e) = kept (Some f) new job.edges (Some e) k he in
-    (hs.0, e.items, (hs.1, h.0), inl hs.2)
-unspelled (Some f) new job (Some s) None k hs he m =
-    let h : HasTable (Some f) job.edges None = kept (Some f) new job.edges None k he in
-    (s.items, h.0, (hs.0, h.1), inr (inl h.2))
-unspelled (Some f) new job (Some s) (Some e) k hs he m =
-    let h : HasTable (Some f) job.edges (Some e) = kept (Some f) new job.edges (Some e) k he in
-    (s.items, e.items, (hs.0, h.0), inr (inr m))
+pub spelled : (old new : Option Files) (job : RehearseJob) (s e : List ℕ) (base : Base) → KeepsFiles old new
+    → HasTable old job.supervoxels s → HasTable new job.edges e → Spells (dataset_of job) s e base → HasBase old job base
+spelled None new job s e base k hs he m = tt
+spelled (Some f) new job s e base k hs he m = (s, e, (hs, kept (Some f) new job.edges e k he), m)
+
+pub spelled_so : (old new : Option Files) (job : RehearseJob) (s e : List ℕ) (r : Result Ingest Stop) → KeepsFiles old new
+    → HasTable old job.supervoxels s → HasTable new job.edges e → IfOk r (λ i. Spells (dataset_of job) s e i.base) → IfOk r (λ i. HasBase old job i.base)
+spelled_so old new job s e (Ok i) k hs he m = spelled old new job s e i.base k hs he m
+spelled_so old new job s e (Err stop) k hs he m = tt
+
+-- the tables were read, and made nothing
+pub third_stop : (old new : Option Files) (left : List ℕ → List ℕ) (job : RehearseJob) (s e : List ℕ) (a c : Seen) (stop : Stop) → KeepsFiles old new
+    → HasTable old job.supervoxels s → HasTable new job.edges e → MakesStop (dataset_of job) s e stop → TablesStop old left job a c stop
+third_stop old new left job s e a c (stops.BadTable table row cause) k hs he m = go old k hs
+  where
+    go : (f : Option Files) → KeepsFiles f new → HasTable f job.supervoxels s → HasFault f job table row cause
+    go None k hs = tt
+    go (Some f) k hs = (s, e, (hs, kept (Some f) new job.edges e k he), m)
+third_stop old new left job s e a c stops.NotBuilt k hs he m = (m.0, spelled old new job s e m.0 k hs he m.1, m.2)
+third_stop old new left job s e a c stops.NoMemory k hs he m = tt
+third_stop old new left job s e a c stops.BadWords k hs he m = absurd m
+third_stop old new left job s e a c (stops.ReadFault client file) k hs he m = absurd m
+third_stop old new left job s e a c (stops.WriteFault client file) k hs he m = absurd m
+third_stop old new left job s e a c (stops.TooLong client file) k hs he m = absurd m
+
+-- the supervoxels weren't read
+pub first_stop : (m : Option Files) (left : List ℕ → List ℕ) (job : RehearseJob) (old new : Seen) (stop : Stop)
+    → TableStop m job.supervoxels files.Supervoxels old new stop → TablesStop m left job old new stop
+first_stop m left job old new stop (inl h) =
+    let P : Stop → Type 0 = λ s. TablesStop m left job old new s in
+    subst P (sym h.0) (refl, h.1)
+first_stop m left job old new stop (inr (inl h)) =
+    let P : Stop → Type 0 = λ s. TablesStop m left job old new s in
+    subst P (sym h.0) (refl, h.1)
+first_stop m left job old new stop (inr (inr h)) =
+    let P : Stop → Type 0 = λ s. TablesStop m left job old new s in
+    subst P (sym h) tt
+
+first_differs : (x y z : Bool) → IsTrue (not (x || y) && z) → x ≡ false
+first_differs true y z h = absurd (cc)
+first_differs false y z h = refl
+
+-- the tables have two names
+tables_differ : (job : RehearseJob) → IsJob job → job.supervoxels ≢ job.edges
+unfolding all_differ job_files
+tables_differ job ok same = absurd (false≢true (sym (first_differs (bytes_eq job.supervoxels job.edges) _ _ ok.names) ∙ (bytes_eq-Decides job.supervoxels job.edges).1 same))
+
+-- a table that was read is still so behind the reading of another one
+still : (m : Option Files) (before after : List ℕ → List ℕ) (name other : List ℕ) → name ≢ other → ((n : List ℕ) → n ≢ other → after n ≡ before n) → WasRead m before name → WasRead m after name
+still None before after name other away same w = tt
+still (Some m) before after name other away same w = (same name away ∙ w.0, w.1, w.2)
+
+-- the supervoxels were read, and the edges weren't
+pub second_stop : (m m1 : Option Files) (before after : List ℕ → List ℕ) (job : RehearseJob) (a b c : Seen) (stop : Stop) → IsJob job → KeepsFiles m m1 → IsLater a b
+    → WasRead m before job.supervoxels → ((n : List ℕ) → n ≢ job.edges → after n ≡ before n) → TableStop m1 job.edges files.Edges b c stop → TablesStop m after job a c stop
+second_stop m m1 before after job a b c stop ok k later w same (inl h) =
+    let P : Stop → Type 0 = λ s. TablesStop m after job a c s in
+    subst P (sym h.0) (refl, read_after a b c job.edges later h.1, still m before after job.supervoxels job.edges (tables_differ job ok) same w)
+second_stop m m1 before after job a b c stop ok k later w same (inr (inl h)) =
+    let P : Stop → Type 0 = λ s. TablesStop m after job a c s in
+    subst P (sym h.0) (refl, kept_long m m1 job.edges table_limit k h.1, still m before after job.supervoxels job.edges (tables_differ job ok) same w)
+second_stop m m1 before after job a b c stop ok k later w same (inr (inr h)) =
+    let P : Stop → Type 0 = λ s. TablesStop m after job a c s in
+    subst P (sym h) tt

@@ -27,7 +27,7 @@ use Rattle.pcg_serve.specs.declared.client.Ended.{Ended}
 use Rattle.pcg_serve.specs.declared.ingest.Ingest.{Ingest}
 use Rattle.pcg_serve.specs.declared.session.Session.{Session}
 use Rattle.pcg_serve.specs.Ingests.{log_of}
-use Rattle.pcg_serve.specs.Jobs.{HasBase, dataset_of}
+use Rattle.pcg_serve.specs.Jobs.{HasBase, IsLarge, dataset_of}
 use Rattle.pcg_serve.specs.Sessions.{Did, asked_of, refuses, texts}
 use Rattle.pcg_serve.specs.declared.summary.Fault.{Fault}
 use Rattle.pcg_serve.specs.declared.summary.Fault.TheVariants as faults
@@ -35,7 +35,7 @@ use Rattle.pcg_serve.specs.declared.summary.ClientFault.{ClientFault}
 use Rattle.pcg_serve.specs.declared.stops.Stop.{Stop}
 use Rattle.pcg_serve.specs.declared.stops.Stop.TheVariants as stops
 use Rattle.pcg_serve.specs.Statuses.{status_of}
-use Rattle.pcg_serve.specs.Causes.{Seen, StopCause, StatusSo, has_one_client}
+use Rattle.pcg_serve.specs.Causes.{ReadBroke, Seen, StopCause, StatusSo, WriteBroke, has_one_client}
 use Rattle.pcg_serve.specs.Texts.{stop_text, summary_line}
 
 -- the lines of a log, its oldest entry first
@@ -232,21 +232,27 @@ fault_status None = 0
 fault_status (Some faults.ReadFault) = 2
 fault_status (Some faults.WriteFault) = 4
 
--- a session ends in a fault only where the place's count of its kind rose
-abbrev pub FaultCause : Option Fault → Seen → Seen → Type 0
-FaultCause None old new = ⊤
-FaultCause (Some faults.ReadFault) old new = Rose old.reads new.reads
-FaultCause (Some faults.WriteFault) old new = Rose old.writes new.writes
+-- a session ends in a fault only where a count of its kind rose, at the place and beside the name of the client's file
+abbrev pub FaultCause : Option Fault → List ℕ → Seen → Seen → Type 0
+FaultCause None stem old new = ⊤
+FaultCause (Some faults.ReadFault) stem old new = ReadBroke old new (request_file stem)
+FaultCause (Some faults.WriteFault) stem old new = WriteBroke old new (answer_file stem)
 
--- A call came past its sessions: its job has one client and no schedule, the tables spell a base, and what is printed are the lines of a legal log over it and the summary.
+-- the same of the only client
+abbrev pub OnlyFaultCause : Option Fault → List (List ℕ) → Seen → Seen → Type 0
+OnlyFaultCause fault [] old new = ⊥
+OnlyFaultCause fault (stem ∷ stems) old new = FaultCause fault stem old new
+
+-- A call came past its sessions: its job has one client and no schedule, the tables spell a base that isn't too large yet, and what is printed are the lines of a legal log over it and the summary.
 pub record CamePast (files files' : Option Files) (left : List ℕ → List ℕ) (job : RehearseJob) (old new : Seen) (printed : List ℕ) (ended : ℕ) : Type 0 where
   pub only : has_one_client job ≡ true
   pub base : Base
   pub has_base : HasBase files job base
+  pub small : ¬ (IsLarge base)
   pub log : List Entry
   pub legal : Legal (dataset_of job) base log
   pub fault : Option Fault
-  pub cause : FaultCause fault old new
+  pub cause : OnlyFaultCause fault job.stems old new
   pub status : ended ≡ fault_status fault
   pub lines : ℕ
   pub refused : ℕ
@@ -254,28 +260,18 @@ pub record CamePast (files files' : Option Files) (left : List ℕ → List ℕ)
   pub text : printed ≡ log_text log
       ++ summary_line (length log - 1) 1 (length log) (faults_of fault) lines (records (dataset_of job) base log) refused (length (live_roots log)) (fault_status fault)
 
--- where the place tells its bytes, they are as they were, but that the client's answer file may be empty
-abbrev pub UnansweredAt : Option Files → List ℕ → Option Files → Type 0
-UnansweredAt None stem after = ⊤
-UnansweredAt (Some before) stem after = (after ≡ Some before) ⊎ (after ≡ Some (insert before (answer_file stem) []))
-
--- the same of the only client
-abbrev pub Unanswered : Option Files → List (List ℕ) → Option Files → Type 0
-Unanswered files [] files' = KeepsFiles files files'
-Unanswered files (stem ∷ stems) files' = UnansweredAt files stem files'
-
--- A call stopped before its sessions, by this cause, with this fault line alone and no answer; or it came past them, printed the log and the summary, and its status is that of the client's end or of its output.
+-- A call stopped before its sessions, by this cause and with these files, with this fault line alone; or it came past them, printed the log and the summary, and its status is that of the client's end or of its output.
 abbrev pub Outcome : Option Files → Option Files → (List ℕ → List ℕ) → RehearseJob → Seen → Seen → Option (List ℕ) → Option (List ℕ) → ℕ → ℕ → ℕ → Type 0
 Outcome files files' left job old new held held' outs outs' status =
-    ((stop : Stop) × (status ≡ status_of stop) × StopCause files job old new stop × Unanswered files job.stems files' × Prints held held' outs outs' (stop_text stop))
+    ((stop : Stop) × (status ≡ status_of stop) × StopCause files files' left job old new stop × Prints held held' outs outs' (stop_text stop))
     ⊎ ((ended : ℕ) × (printed : List ℕ) × CamePast files files' left job old new printed ended × Prints held held' outs outs' printed × StatusSo outs outs' ended status)
 
--- The same of words: they spell no job, or its outcome is this, or memory ran out over them.
+-- The same of words: they spell no job, or its outcome is this, or memory ran out over them; where they weren't read, no file changed.
 abbrev pub JobOutcome : Option Files → Option Files → (List ℕ → List ℕ) → Option Job → Seen → Seen → Option (List ℕ) → Option (List ℕ) → ℕ → ℕ → ℕ → Type 0
 JobOutcome files files' left None old new held held' outs outs' status =
-    ((status ≡ 1) × Prints held held' outs outs' (stop_text stops.BadWords)) ⊎ ((status ≡ 5) × Prints held held' outs outs' (stop_text stops.NoMemory))
+    KeepsFiles files files' × (((status ≡ 1) × Prints held held' outs outs' (stop_text stops.BadWords)) ⊎ ((status ≡ 5) × Prints held held' outs outs' (stop_text stops.NoMemory)))
 JobOutcome files files' left (Some (job.Rehearse found)) old new held held' outs outs' status =
-    Outcome files files' left found old new held held' outs outs' status ⊎ ((status ≡ 5) × Prints held held' outs outs' (stop_text stops.NoMemory))
+    Outcome files files' left found old new held held' outs outs' status ⊎ (KeepsFiles files files' × (status ≡ 5) × Prints held held' outs outs' (stop_text stops.NoMemory))
 
 -- no count rose
 abbrev pub IsQuiet : ℕ → ℕ → ℕ → ℕ → ℕ → ℕ → Type 0

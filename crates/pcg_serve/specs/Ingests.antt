@@ -1,9 +1,19 @@
 -- What the two tables make.
-use Rattle.std.specs.Prelude.{◌≡◌, ◌≤◌, ◌<◌, ◌^◌, List, [], ◌∷◌, length}
+use Rattle.std.specs.Prelude.{◌≡◌, ◌≤◌, ◌<◌, ◌^◌, ⊤, ℕ, List, [], ◌∷◌, length}
 use Rattle.op_model.specs.declared.Entry.{Entry}
 use Rattle.op_model.specs.Operations.{first_entry}
 use Rattle.op_model.specs.Records.{records}
 use Rattle.op_model.specs.Valid.{IsBase, IsDataset}
+use Rattle.op_model.specs.declared.Dataset.{Dataset}
+use Rattle.op_model.specs.declared.Base.{Base}
+use Rattle.table_ingest.specs.declared.errors.Table.{Table}
+use Rattle.table_ingest.specs.declared.errors.Cause.{Cause}
+use Rattle.table_ingest.specs.declared.errors.TableError.{TableError}
+use Rattle.table_ingest.specs.declared.errors.TableError.TheVariants as errors
+use Rattle.table_ingest.specs.Bases.{Faulty, Spells}
+use Rattle.pcg_serve.specs.Jobs.{IsLarge}
+use Rattle.pcg_serve.specs.declared.stops.Stop.{Stop}
+use Rattle.pcg_serve.specs.declared.stops.Stop.TheVariants as stops
 use Rattle.pcg_serve.specs.declared.ingest.Ingest.{Ingest}
 
 -- the log that it begins
@@ -18,3 +28,15 @@ pub record IsIngest (i : Ingest) : Type 0 where
   pub entry : i.entry ≡ first_entry i.dataset i.base i.entry.at
   pub time : i.entry.at < 2 ^ 62
   pub records : i.records ≡ records i.dataset i.base (i.entry ∷ [])
+
+-- why two tables made nothing
+abbrev pub MakesStop : Dataset → List ℕ → List ℕ → Stop → Type 0
+MakesStop d supervoxels edges (stops.BadTable table row cause) = Faulty d supervoxels edges table row cause
+MakesStop d supervoxels edges stops.NotBuilt = (b : Base) × Spells d supervoxels edges b × IsLarge b
+MakesStop d supervoxels edges stops.NoMemory = ⊤
+MakesStop d supervoxels edges stop = ⊥
+
+-- what was wrong with a table
+abbrev pub IfBad : TableError → (Table → ℕ → Cause → Type 0) → Type 0
+IfBad (errors.Bad table row cause) told = told table row cause
+IfBad errors.NoMemory told = ⊤

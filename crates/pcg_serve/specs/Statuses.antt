@@ -7,5 +7,7 @@ abbrev pub status_of : Stop → ℕ
 status_of stops.BadWords = 1
 status_of (stops.ReadFault client file) = 2
 status_of (stops.WriteFault client file) = 4
+status_of (stops.TooLong client file) = 7
+status_of (stops.BadTable table row cause) = 3
 status_of stops.NotBuilt = 8
 status_of stops.NoMemory = 5

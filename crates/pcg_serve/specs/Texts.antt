@@ -1,6 +1,9 @@
 -- What a call writes to its output: the log and a summary, or one fault line.
 use Rattle.std.specs.Prelude.{ℕ, List, [], ◌∷◌, map, codes, decimal}
 use Rattle.request_lines.specs.Json.{array, line, member, quoted}
+use Rattle.table_ingest.specs.Faults.{cause_name, table_name}
+use Rattle.table_ingest.specs.declared.errors.Table.{Table}
+use Rattle.table_ingest.specs.declared.errors.Cause.{Cause}
 use Rattle.pcg_serve.specs.declared.stops.FileName.{FileName}
 use Rattle.pcg_serve.specs.declared.stops.FileName.TheVariants as files
 use Rattle.pcg_serve.specs.declared.stops.Stop.{Stop}
@@ -26,11 +29,20 @@ abbrev pub of_file : ℕ → List ℕ → FileName → List ℕ
 of_file client fault file =
     line (member (codes "client") (decimal client) ∷ member (codes "fault") (quoted fault) ∷ member (codes "file") (quoted (file_name file)) ∷ [])
 
+-- a record of a table with a cause
+abbrev pub of_table : Table → ℕ → Cause → List ℕ
+of_table table row cause =
+    line
+    (member (codes "cause") (quoted (cause_name cause)) ∷ member (codes "fault") (quoted (codes "BadTable")) ∷ member (codes "row") (decimal row)
+    ∷ member (codes "table") (quoted (table_name table)) ∷ [])
+
 -- the fault line of a call that stopped before its sessions
 unfoldable pub stop_text : Stop → List ℕ
 stop_text stops.BadWords = bare (codes "BadWords")
 stop_text (stops.ReadFault client file) = of_file client (codes "ReadFault") file
 stop_text (stops.WriteFault client file) = of_file client (codes "WriteFault") file
+stop_text (stops.TooLong client file) = of_file client (codes "TooLong") file
+stop_text (stops.BadTable table row cause) = of_table table row cause
 stop_text stops.NotBuilt = bare (codes "NotBuilt")
 stop_text stops.NoMemory = bare (codes "NoMemory")
 

@@ -5,8 +5,8 @@ ghost use Rattle.std.specs.Io.KnownBytes.{Keeps};
 ghost use Rattle.pcg_base.specs.Causes.{Rose};
 ghost use Rattle.pcg_base.specs.Told.{IsLonger, KeepsFiles};
 ghost use Rattle.pcg_words.specs.Job.{answer_file, request_file};
-ghost use Rattle.pcg_serve.specs.Causes.{LongAt, StopsAt};
-ghost use Rattle.pcg_serve.specs.Headline.{ClientDoneAt, ClientEndAt, IsWhole, KeepsOthers, SessionEnd, UnansweredAt};
+ghost use Rattle.pcg_serve.specs.Causes.{StopsAt};
+ghost use Rattle.pcg_serve.specs.Headline.{ClientDoneAt, ClientEndAt, FaultCause, IsWhole, KeepsOthers, SessionEnd};
 ghost use Rattle.pcg_serve.specs.Ingests.{IsIngest, log_of};
 
 use crate::ingest::Ingest;
@@ -49,7 +49,7 @@ fn end_of(session: Session, broken: bool) -> Ended
 }
 
 /// Reads the requests and answers them.
-#[tactic(auto, using(crate::proofs::Unanswered::keeps_itself))]
+#[tactic(auto, using(crate::proofs::Stopping::keeps_itself))]
 fn serve_stream<S: Source, K: Sink>(
     alloc: Global,
     ingest: &Ingest,
@@ -84,7 +84,7 @@ fn serve_stream<S: Source, K: Sink>(
 }
 
 /// Opens the client's two files, answers its requests, and keeps both files back.
-#[tactic(auto, using(crate::proofs::Others::others_same, crate::proofs::Others::others_kept, crate::proofs::Unanswered::same, crate::proofs::Unanswered::kept))]
+#[tactic(auto, using(crate::proofs::Others::others_same, crate::proofs::Others::others_kept, crate::proofs::Stopping::files_keep, crate::proofs::Stopping::files_then))]
 pub fn run_client<P: Place>(
     alloc: Global,
     ingest: &Ingest,
@@ -92,13 +92,11 @@ pub fn run_client<P: Place>(
     place: &mut P,
 ) -> Result<Ended, Stop>
     requires { IsIngest ingest.now }
-    ensures stop { IfErr result (λ stop. StopsAt (P.files place.old) stem.now (record { reads = P.read_faults place.old; writes = P.write_faults place.old; counts = P.counts place.old }) (record { reads = P.read_faults place.new; writes = P.write_faults place.new; counts = P.counts place.new }) stop) }
+    ensures stop { IfErr result (λ stop. StopsAt (P.files place.old) (P.files place.new) (P.left_at place.new) stem.now (record { reads = P.read_faults place.old; writes = P.write_faults place.old; counts = P.counts place.old }) (record { reads = P.read_faults place.new; writes = P.write_faults place.new; counts = P.counts place.new }) stop) }
     ensures ended { IfOk result (λ e. ClientEndAt ingest.now.dataset ingest.now.base (log_of ingest.now) (P.files place.old) (P.files place.new) (P.left_at place.new (request_file stem.now)) stem.now e.fault e.session.lines e.session.refused) }
-    ensures unanswered { OnErr result (UnansweredAt (P.files place.old) stem.now (P.files place.new)) }
     ensures others { KeepsOthers (stem.now ∷ []) (P.files place.old) (P.files place.new) }
     ensures whole { IfOk result (λ e. e.fault ≡ None → ClientDoneAt ingest.now stem.now (P.files place.old) (P.files place.new) e.session) }
-    ensures read { IfOk result (λ e. e.fault ≡ Some Fault.ReadFault → Rose (P.read_faults place.old) (P.read_faults place.new)) }
-    ensures write { IfOk result (λ e. e.fault ≡ Some Fault.WriteFault → Rose (P.write_faults place.old) (P.write_faults place.new)) }
+    ensures cause { IfOk result (λ e. FaultCause e.fault stem.now (record { reads = P.read_faults place.old; writes = P.write_faults place.old; counts = P.counts place.old }) (record { reads = P.read_faults place.new; writes = P.write_faults place.new; counts = P.counts place.new })) }
     ensures reads { P.read_faults place.old ≤ P.read_faults place.new }
     ensures writes { P.write_faults place.old ≤ P.write_faults place.new }
 {

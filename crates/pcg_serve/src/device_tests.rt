@@ -1,30 +1,10 @@
 //! One run over devices that take a byte a call, and with each single call of a device failing in turn.
 
 use crate::run;
+use crate::samples::{EDGES, LOG, REPLIES, ROOTS, Ran, SUMMARY, SUPERVOXELS, WORDS, words_of};
 use pcg_base::{MemFile, MemPlace, MemSink, OpenGate, StepClock};
 use std::alloc::Global;
 use std::test::Fail;
-
-const WORDS: &str =
-    "rehearse --bits 8 --grid 2,1,1 --supervoxels supervoxels.csv --edges edges.csv --merge-affinity 1 --clock 1000,10 first";
-
-const SUPERVOXELS: &[u8] =
-    b"supervoxel\n72057594037927937\n72057594037927938\n72339069014638593\n72339069014638594\n";
-
-const EDGES: &[u8] =
-    b"a,b,affinity,active\n72057594037927937,72057594037927938,10,1\n72057594037927938,72339069014638593,7,1\n72339069014638593,72339069014638594,5,0\n";
-
-const ROOTS: &[u8] =
-    b"{\"do\":\"root\",\"sv\":\"72057594037927937\"}\n{\"do\":\"root\",\"sv\":\"72339069014638594\"}\n";
-
-const REPLIES: &[u8] =
-    b"{\"ok\":true,\"root\":\"216172782113783809\",\"seen\":1}\n{\"ok\":true,\"root\":\"216172782113783810\",\"seen\":1}\n";
-
-const LOG: &[u8] =
-    b"{\"at\":1000,\"changed\":[],\"client\":0,\"line\":0,\"made\":[\"216172782113783809\",\"216172782113783810\"],\"op\":0,\"request\":{\"do\":\"ingest\"},\"retired\":[]}\n";
-
-const SUMMARY: &[u8] =
-    b"{\"accepted\":0,\"clients\":1,\"entries\":1,\"faults\":[],\"lines\":2,\"records\":24,\"refused\":0,\"roots\":2,\"status\":0}\n";
 
 /// The devices of a run: whether each goes by single bytes, and the one call that fails, of the file
 /// `at`, or of the output where `at` is `out`.
@@ -77,19 +57,8 @@ fn out_of(alloc: Global, devices: &Devices<'_>) -> Result<MemSink, Fail> {
     }
 }
 
-/// What a run came to.
-#[derive(Drop)]
-struct Ran {
-    status: u8,
-    answers: Vec<u8>,
-    out: Vec<u8>,
-}
-
 fn call(alloc: Global, devices: &Devices<'_>) -> Result<Ran, Fail> {
-    let mut words = Vec::new(alloc);
-    for word in WORDS.split(' ') {
-        words.push(Vec::from_slice(alloc, word.as_bytes())?)?;
-    }
+    let words = words_of(alloc, WORDS)?;
     let mut place = place_of(alloc, devices)?;
     let mut out = out_of(alloc, devices)?;
     let clock = StepClock::new(5, 5);

@@ -1,18 +1,19 @@
 //! What the two tables make: a base, and the log that it begins.
 
-ghost use Rattle.std.specs.Prelude.{◌≡◌, ◌≤◌, ◌<◌, ◌^◌, ◌⊎◌, Some, None, IfOk, IfErr, IsErrOf};
+ghost use Rattle.std.specs.Prelude.{◌≡◌, ◌≤◌, ◌<◌, ◌^◌, IfOk, IfErr, IsTrue, false, length};
 ghost use Rattle.pcg_words.specs.Job.{HasRanges};
 ghost use Rattle.op_model.specs.Valid.{IsDataset};
-ghost use Rattle.table_ingest.specs.Plain.{base_of};
-ghost use Rattle.pcg_serve.specs.Jobs.{dataset_of};
-ghost use Rattle.pcg_serve.specs.Ingests.{IsIngest};
+ghost use Rattle.table_ingest.specs.Bases.{Spells};
+ghost use Rattle.pcg_serve.specs.Jobs.{IsLarge, dataset_of};
+ghost use Rattle.pcg_serve.specs.Ingests.{IfBad, IsIngest, MakesStop};
 
+use crate::stops::Stop;
 use node_ids::Layout;
 use op_model::{Base, Dataset, Entry};
 use pcg_words::RehearseJob;
 use plain_hierarchy::{first_entry, record_count};
 use std::alloc::Global;
-use table_ingest::{PlainError, read_plain_base};
+use table_ingest::{TableError, read_base};
 
 /// A base, and the log that it begins.
 #[derive(Drop)]
@@ -43,26 +44,52 @@ fn dataset_of(job: &RehearseJob) -> Dataset
     }
 }
 
-/// What two tables make, or that they spell no base.
+/// Whether a base is larger than the labels are computed of.
+fn is_large(base: &Base) -> bool
+    ensures large { IsTrue result → IsLarge base.now }
+    ensures small { result ≡ false → (length base.now.supervoxels ≤ 255) × (length base.now.edges ≤ 1000) }
+{
+    base.supervoxels.list.len() > 255 || base.edges.list.len() > 1000
+}
+
+/// Why two tables gave no base.
+fn stop_of(error: TableError) -> Stop
+    ensures bad { IfBad error (λ table row cause. result ≡ Stop.BadTable table row cause) }
+    ensures memory { error ≡ TableError.NoMemory → result ≡ Stop.NoMemory }
+{
+    match error {
+        TableError::Bad { table, row, cause } => Stop::BadTable { table, row, cause },
+        TableError::NoMemory => Stop::NoMemory,
+    }
+}
+
+/// What two tables make: `BadTable` exactly where a record has a cause, `NotBuilt` exactly where they spell
+/// a base of more than 255 supervoxels or 1,000 edges, unless memory ran out.
 pub fn make_ingest(
     alloc: Global,
     job: &RehearseJob,
     supervoxels: &[u8],
     edges: &[u8],
-) -> Result<Ingest, PlainError>
+) -> Result<Ingest, Stop>
     requires { HasRanges job.now }
     ensures made { IfOk result (λ i. IsIngest i) }
     ensures dataset { IfOk result (λ i. i.dataset ≡ dataset_of job.now) }
-    ensures base { IfOk result (λ i. base_of (dataset_of job.now) supervoxels.now edges.now ≡ Some i.base) }
-    ensures not_built { IsErrOf result PlainError.NotBuilt → base_of (dataset_of job.now) supervoxels.now edges.now ≡ None }
+    ensures base { IfOk result (λ i. Spells (dataset_of job.now) supervoxels.now edges.now i.base) }
+    ensures stop { IfErr result (λ stop. MakesStop (dataset_of job.now) supervoxels.now edges.now stop) }
 {
     let dataset = dataset_of(job);
-    let base = read_plain_base(alloc, supervoxels, edges, &dataset)?;
+    let base = match read_base(alloc, supervoxels, edges, &dataset) {
+        Ok(base) => base,
+        Err(error) => return Err(stop_of(error)),
+    };
+    if is_large(&base) {
+        return Err(Stop::NotBuilt);
+    }
     let Ok(entry) = first_entry(alloc, &dataset, &base, job.clock.time(0)) else {
-        return Err(PlainError::NoMemory);
+        return Err(Stop::NoMemory);
     };
     let Ok(records) = record_count(alloc, &dataset, &base) else {
-        return Err(PlainError::NoMemory);
+        return Err(Stop::NoMemory);
     };
     Ok(Ingest {
         dataset,

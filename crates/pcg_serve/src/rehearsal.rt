@@ -1,13 +1,13 @@
 //! A rehearsal: the clients' requests, answered on one thread.
 
-ghost use Rattle.std.specs.Prelude.{◌≡◌, ◌≤◌, ◌<◌, ◌⊎◌, ◌∷◌, ◌++◌, [], IfOk, IfErr, IfSome, IfNone, OnOk, OnErr, false, true, length, vec_len, vec_capacity};
+ghost use Rattle.std.specs.Prelude.{◌≡◌, ◌≤◌, ◌<◌, ◌⊎◌, ◌∷◌, ◌++◌, [], ℕ, IfOk, IfErr, IfSome, IfNone, OnOk, OnErr, false, true, length, vec_len, vec_capacity};
 ghost use Rattle.std.specs.Io.KnownBytes.{Appends};
 ghost use Rattle.pcg_base.specs.Causes.{HasCause, Rose};
 ghost use Rattle.pcg_base.specs.Told.{AppendsFront};
 ghost use Rattle.pcg_words.specs.Job.{IsJob};
 ghost use Rattle.request_lines.specs.Texts.{entry_text};
-ghost use Rattle.pcg_serve.specs.Causes.{EndsSo, IsUnbuilt, StatusSo, StopCause, has_one_client};
-ghost use Rattle.pcg_serve.specs.Headline.{CamePast, DoneAt, IsDone, KeepsOthers, Outcome, Prints, Unanswered, fault_status, faults_of};
+ghost use Rattle.pcg_serve.specs.Causes.{EndsSo, HasBadTable, HasLongTable, IsDue, IsUnbuilt, StatusSo, StopCause, has_one_client};
+ghost use Rattle.pcg_serve.specs.Headline.{CamePast, DoneAt, IsDone, KeepsOthers, Outcome, Prints, fault_status, faults_of};
 ghost use Rattle.pcg_serve.specs.Ingests.{IsIngest};
 ghost use Rattle.pcg_serve.specs.Statuses.{status_of};
 ghost use Rattle.pcg_serve.specs.Texts.{stop_text, summary_text};
@@ -105,9 +105,8 @@ fn summary_of(ingest: &Ingest, ended: Ended, faults: Vec<ClientFault>) -> Summar
 /// Goes through the steps of a rehearsal up to the end of its sessions.
 fn rehearse<P: Place>(alloc: Global, job: &RehearseJob, place: &mut P) -> Result<Rehearsed, Stop>
     requires { IsJob job.now }
-    ensures stop { IfErr result (λ stop. StopCause (P.files place.old) job.now (record { reads = P.read_faults place.old; writes = P.write_faults place.old; counts = P.counts place.old }) (record { reads = P.read_faults place.new; writes = P.write_faults place.new; counts = P.counts place.new }) stop) }
+    ensures stop { IfErr result (λ stop. StopCause (P.files place.old) (P.files place.new) (P.left_at place.new) job.now (record { reads = P.read_faults place.old; writes = P.write_faults place.old; counts = P.counts place.old }) (record { reads = P.read_faults place.new; writes = P.write_faults place.new; counts = P.counts place.new }) stop) }
     ensures done { IfOk result (λ r. r.summary.status ≡ 0 → DoneAt job.now (P.files place.old) (P.files place.new) (entry_text r.ingest.entry ++ summary_text r.summary)) }
-    ensures unanswered { OnErr result (Unanswered (P.files place.old) job.now.stems (P.files place.new)) }
     ensures came { IfOk result (λ r. CamePast (P.files place.old) (P.files place.new) (P.left_at place.new) job.now (record { reads = P.read_faults place.old; writes = P.write_faults place.old; counts = P.counts place.old }) (record { reads = P.read_faults place.new; writes = P.write_faults place.new; counts = P.counts place.new }) (entry_text r.ingest.entry ++ summary_text r.summary) r.summary.status) }
     ensures others { KeepsOthers job.now.stems (P.files place.old) (P.files place.new) }
     ensures status { IfOk result (λ r. EndsSo (P.read_faults place.old) (P.read_faults place.new) (P.write_faults place.old) (P.write_faults place.new) r.summary.status) }
@@ -168,9 +167,11 @@ pub fn stopped<K: Sink>(stop: Stop, out: &mut K) -> u8
 /// - 0: done;
 /// - 2: a read or an opening for reading failed;
 /// - 4: a write or an opening for writing failed, or `out` did;
+/// - 3: a record of a table has a cause; the first such record is named, the supervoxel table first;
 /// - 5: memory ran out;
-/// - 8: the input is of a form that isn't taken yet: several clients or a schedule, tables that aren't in
-///   the plain form or spell no base, or a file of over 65,536 bytes.
+/// - 7: a table has over 1,073,741,824 bytes;
+/// - 8: the input is of a form that isn't taken yet: several clients or a schedule, a base of over 255
+///   supervoxels or 1,000 edges, or requests of over 65,536 bytes.
 pub fn run_rehearse<P: Place, K: Sink>(
     alloc: Global,
     job: &RehearseJob,
@@ -179,10 +180,13 @@ pub fn run_rehearse<P: Place, K: Sink>(
 ) -> u8
     requires { IsJob job.now }
     ensures done { result ≡ 0 → IsDone job.now (P.files place.old) (P.files place.new) (K.held out.old) (K.held out.new) }
-    ensures known { (result ≡ 0) ⊎ (result ≡ 2) ⊎ (result ≡ 4) ⊎ (result ≡ 5) ⊎ (result ≡ 8) }
+    ensures known { (result ≡ 0) ⊎ (result ≡ 2) ⊎ (result ≡ 4) ⊎ (result ≡ 3) ⊎ (result ≡ 5) ⊎ (result ≡ 7) ⊎ (result ≡ 8) }
     ensures read { result ≡ 2 → Rose (P.read_faults place.old) (P.read_faults place.new) }
     ensures write { result ≡ 4 → Rose (P.write_faults place.old) (P.write_faults place.new) ⊎ Rose (K.faults out.old) (K.faults out.new) }
     ensures not_built { result ≡ 8 → IsUnbuilt (P.files place.old) job.now }
+    ensures due { (s : ℕ) → IsDue (P.files place.old) job.now s → (result ≡ s) ⊎ (result ≡ 2) ⊎ (result ≡ 4) ⊎ (result ≡ 5) }
+    ensures bad_table { result ≡ 3 → HasBadTable (P.files place.old) job.now }
+    ensures too_long { result ≡ 7 → HasLongTable (P.files place.old) job.now }
     ensures outcome { Outcome (P.files place.old) (P.files place.new) (P.left_at place.new) job.now (record { reads = P.read_faults place.old; writes = P.write_faults place.old; counts = P.counts place.old }) (record { reads = P.read_faults place.new; writes = P.write_faults place.new; counts = P.counts place.new }) (K.held out.old) (K.held out.new) (K.faults out.old) (K.faults out.new) result }
     ensures not_built_line { result ≡ 8 → Prints (K.held out.old) (K.held out.new) (K.faults out.old) (K.faults out.new) (stop_text Stop.NotBuilt) }
     ensures no_memory_line { result ≡ 5 → Prints (K.held out.old) (K.held out.new) (K.faults out.old) (K.faults out.new) (stop_text Stop.NoMemory) }

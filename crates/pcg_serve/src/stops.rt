@@ -5,11 +5,13 @@ ghost use Rattle.std.specs.Io.KnownBytes.{Appends};
 ghost use Rattle.pcg_base.specs.Causes.{HasCause};
 ghost use Rattle.pcg_base.specs.Told.{AppendsFront};
 ghost use Rattle.request_lines.specs.Sent.{Puts};
-ghost use Rattle.pcg_serve.specs.Texts.{file_name, of_file, stop_text};
+ghost use Rattle.pcg_serve.specs.Texts.{file_name, of_file, of_table, stop_text};
+ghost use Rattle.table_ingest.specs.Faults.{cause_name, table_name};
 ghost use Rattle.pcg_serve.specs.Statuses.{status_of};
 
 use pcg_base::{Failed, Sink};
 use request_lines::Page;
+use table_ingest::{Cause, Table};
 
 /// Which file a fault line speaks of.
 #[derive(Clone, Copy, Debug, PartialEq, Eq)]
@@ -30,9 +32,27 @@ pub enum Stop {
     /// The words are no job.
     BadWords,
     /// A file could not be opened for reading, or a table could not be read.
-    ReadFault { client: u32, file: FileName },
+    ReadFault {
+        client: u32,
+        file: FileName,
+    },
     /// A file could not be opened for writing.
-    WriteFault { client: u32, file: FileName },
+    WriteFault {
+        client: u32,
+        file: FileName,
+    },
+    /// A table has more bytes than a table may have.
+    TooLong {
+        client: u32,
+        file: FileName,
+    },
+    /// This record of a table is the first one with a cause, and this is its first cause. The header is
+    /// record 0.
+    BadTable {
+        table: Table,
+        row: u64,
+        cause: Cause,
+    },
     /// The input is of a form that the program doesn't take yet.
     NotBuilt,
     /// Memory ran out.
@@ -48,6 +68,8 @@ impl Stop {
             Stop::BadWords => 1,
             Stop::ReadFault { .. } => 2,
             Stop::WriteFault { .. } => 4,
+            Stop::TooLong { .. } => 7,
+            Stop::BadTable { .. } => 3,
             Stop::NotBuilt => 8,
             Stop::NoMemory => 5,
         }
@@ -77,6 +99,31 @@ fn put_file<K: Sink>(page: &mut Page, out: &mut K, client: u32, fault: &[u8], fi
     page.put(out, b"}\n");
 }
 
+/// The name of a cause in a fault line.
+fn cause_name_of(cause: Cause) -> &'static [u8]
+    ensures { result.now ≡ cause_name cause }
+{
+    cause.name().as_bytes()
+}
+
+/// The name of a table in a fault line.
+fn table_name_of(table: Table) -> &'static [u8]
+    ensures { result.now ≡ table_name table }
+{
+    table.name().as_bytes()
+}
+
+/// Puts the fault line of a record of a table.
+fn put_record<K: Sink>(page: &mut Page, out: &mut K, table: Table, row: u64, cause: Cause)
+    ensures { Puts (K.held out.old) (K.held out.new) (K.faults out.old) (K.faults out.new) page.old page.new (of_table table row cause) }
+{
+    page.put_word(out, b"{\"cause\":", cause_name_of(cause));
+    page.put_word(out, b",\"fault\":", b"BadTable");
+    page.put_number(out, b",\"row\":", row);
+    page.put_word(out, b",\"table\":", table_name_of(table));
+    page.put(out, b"}\n");
+}
+
 /// Puts the fault line of a stop.
 #[tactic(auto, unfolding(crate::specs::Texts::stop_text))]
 fn put_stop<K: Sink>(page: &mut Page, out: &mut K, stop: Stop)
@@ -86,6 +133,8 @@ fn put_stop<K: Sink>(page: &mut Page, out: &mut K, stop: Stop)
         Stop::BadWords => page.put(out, b"{\"fault\":\"BadWords\"}\n"),
         Stop::ReadFault { client, file } => put_file(page, out, client, b"ReadFault", file),
         Stop::WriteFault { client, file } => put_file(page, out, client, b"WriteFault", file),
+        Stop::TooLong { client, file } => put_file(page, out, client, b"TooLong", file),
+        Stop::BadTable { table, row, cause } => put_record(page, out, table, row, cause),
         Stop::NotBuilt => page.put(out, b"{\"fault\":\"NotBuilt\"}\n"),
         Stop::NoMemory => page.put(out, b"{\"fault\":\"NoMemory\"}\n"),
     }

@@ -1,32 +1,17 @@
 use crate::run;
+use crate::samples::{EDGES, LOG, REPLIES, ROOTS, Ran, SUMMARY, SUPERVOXELS, WORDS, words_of};
+use crate::shut_place::ShutPlace;
 use pcg_base::{MemFile, MemPlace, MemSink, OpenGate, StepClock};
 use std::alloc::{AllocError, Global};
 use std::test::Fail;
 
-const WORDS: &str =
-    "rehearse --bits 8 --grid 2,1,1 --supervoxels supervoxels.csv --edges edges.csv --merge-affinity 1 --clock 1000,10 first";
-
-const SUPERVOXELS: &[u8] =
-    b"supervoxel\n72057594037927937\n72057594037927938\n72339069014638593\n72339069014638594\n";
-
-const EDGES: &[u8] =
-    b"a,b,affinity,active\n72057594037927937,72057594037927938,10,1\n72057594037927938,72339069014638593,7,1\n72339069014638593,72339069014638594,5,0\n";
-
-const ROOTS: &[u8] =
-    b"{\"do\":\"root\",\"sv\":\"72057594037927937\"}\n{\"do\":\"root\",\"sv\":\"72339069014638594\"}\n";
-
-const REPLIES: &[u8] =
-    b"{\"ok\":true,\"root\":\"216172782113783809\",\"seen\":1}\n{\"ok\":true,\"root\":\"216172782113783810\",\"seen\":1}\n";
-
-const LOG: &[u8] =
-    b"{\"at\":1000,\"changed\":[],\"client\":0,\"line\":0,\"made\":[\"216172782113783809\",\"216172782113783810\"],\"op\":0,\"request\":{\"do\":\"ingest\"},\"retired\":[]}\n";
-
-/// What a call meets: its files, of which one may be missing, and the calls that fail.
+/// What a call meets: its files, of which two may be missing, and the calls that fail.
 #[derive(Clone, Copy)]
 struct Outside<'a> {
     supervoxels: &'a [u8],
+    edges: &'a [u8],
     requests: &'a [u8],
-    missing: &'a str,
+    missing: (&'a str, &'a str),
     read_fails: &'a [u32],
     write_fails: &'a [u32],
     out_fails: &'a [u32],
@@ -36,8 +21,9 @@ struct Outside<'a> {
 fn asking(requests: &[u8]) -> Outside<'_> {
     Outside {
         supervoxels: SUPERVOXELS,
+        edges: EDGES,
         requests,
-        missing: "",
+        missing: ("", ""),
         read_fails: &[],
         write_fails: &[],
         out_fails: &[],
@@ -63,31 +49,15 @@ fn place_of(alloc: Global, outside: &Outside<'_>) -> Result<MemPlace, Fail> {
     let mut files = Vec::new(alloc);
     for (name, bytes, read_fails) in [
         ("supervoxels.csv", outside.supervoxels, [].as_slice()),
-        ("edges.csv", EDGES, [].as_slice()),
+        ("edges.csv", outside.edges, [].as_slice()),
         ("first.req", outside.requests, outside.read_fails),
         ("first.ans", b"old".as_slice(), [].as_slice()),
     ] {
-        if name != outside.missing {
+        if name != outside.missing.0 && name != outside.missing.1 {
             files.push(file(alloc, name, bytes, read_fails, outside.write_fails)?)?;
         }
     }
     Ok(MemPlace::new(alloc, files, 65536, 65536)?)
-}
-
-fn words_of(alloc: Global, text: &str) -> Result<Vec<Vec<u8>>, Fail> {
-    let mut words = Vec::new(alloc);
-    for word in text.split(' ') {
-        words.push(Vec::from_slice(alloc, word.as_bytes())?)?;
-    }
-    Ok(words)
-}
-
-/// What a call came to.
-#[derive(Drop)]
-struct Ran {
-    status: u8,
-    answers: Vec<u8>,
-    out: Vec<u8>,
 }
 
 fn call(alloc: Global, words: &str, outside: &Outside<'_>) -> Result<Ran, Fail> {
@@ -123,11 +93,7 @@ fn is_log(out: &[u8], summary: &[u8]) -> bool {
 #[test]
 fn replies(rt: HostRuntime) -> Result<(), Fail> {
     let cases = [
-        (
-            ROOTS,
-            REPLIES,
-            b"{\"accepted\":0,\"clients\":1,\"entries\":1,\"faults\":[],\"lines\":2,\"records\":24,\"refused\":0,\"roots\":2,\"status\":0}\n".as_slice(),
-        ),
+        (ROOTS, REPLIES, SUMMARY),
         (
             b"".as_slice(),
             b"".as_slice(),
@@ -153,60 +119,203 @@ fn replies(rt: HostRuntime) -> Result<(), Fail> {
     Ok(())
 }
 
+/// Whether a call stops so, and leaves the answers.
+fn stops_so(alloc: Global, outside: &Outside<'_>, status: u8, line: &[u8]) -> Result<bool, Fail> {
+    let found = call(alloc, WORDS, outside)?;
+    Ok(
+        found.status == status
+            && found.answers.as_slice() == b"old".as_slice()
+            && found.out.as_slice() == line,
+    )
+}
+
 #[test]
 fn stops(rt: HostRuntime) -> Result<(), Fail> {
     let usual = asking(ROOTS);
-    let long = vec![in rt.alloc(); b'\n'; 65537]?;
+    let supervoxels_missing =
+        b"{\"client\":0,\"fault\":\"ReadFault\",\"file\":\"supervoxels\"}\n".as_slice();
     let cases = [
         (
             Outside {
-                supervoxels: b"supervoxel\r\n72057594037927937\r\n72057594037927938\r\n72339069014638593\r\n72339069014638594\r\n",
-                ..usual
-            },
-            8,
-            b"old".as_slice(),
-            b"{\"fault\":\"NotBuilt\"}\n".as_slice(),
-        ),
-        (
-            asking(long.as_slice()),
-            8,
-            b"",
-            b"{\"fault\":\"NotBuilt\"}\n",
-        ),
-        (
-            Outside {
-                missing: "edges.csv",
+                missing: ("supervoxels.csv", "edges.csv"),
                 ..usual
             },
             2,
-            b"old",
+            supervoxels_missing,
+        ),
+        (
+            Outside {
+                missing: ("supervoxels.csv", ""),
+                edges: b"a,b\n",
+                ..usual
+            },
+            2,
+            supervoxels_missing,
+        ),
+        (
+            Outside {
+                missing: ("edges.csv", "first.req"),
+                supervoxels: b"",
+                ..usual
+            },
+            2,
             b"{\"client\":0,\"fault\":\"ReadFault\",\"file\":\"edges\"}\n",
         ),
         (
             Outside {
-                missing: "first.req",
+                missing: ("first.req", ""),
                 ..usual
             },
             2,
-            b"old",
             b"{\"client\":1,\"fault\":\"ReadFault\",\"file\":\"requests\"}\n",
         ),
         (
             Outside {
-                out_fails: &[1],
+                missing: ("first.req", ""),
+                edges: b"a,b\n72057594037927937,72057594037927938\n",
                 ..usual
             },
-            4,
-            REPLIES,
-            b"",
+            3,
+            b"{\"cause\":\"BadHeader\",\"fault\":\"BadTable\",\"row\":0,\"table\":\"edges\"}\n",
+        ),
+        (
+            Outside {
+                edges: b"a,b,affinity,active\n72057594037927937,72057594037927938,10,1\n72057594037927938,72057594037927938,7,1\n72339069014638593,72339069014638594,5,0\n",
+                ..usual
+            },
+            3,
+            b"{\"cause\":\"SelfEdge\",\"fault\":\"BadTable\",\"row\":2,\"table\":\"edges\"}\n",
+        ),
+        (
+            Outside {
+                supervoxels: b"supervoxel\n72057594037927937\n72057594037927937\n",
+                edges: b"",
+                ..usual
+            },
+            3,
+            b"{\"cause\":\"DoubleSupervoxel\",\"fault\":\"BadTable\",\"row\":2,\"table\":\"supervoxels\"}\n",
         ),
     ];
-    for (outside, status, answers, out) in cases {
-        let found = call(rt.alloc(), WORDS, &outside)?;
-        assert_eq!(rt; found.status, status);
-        assert_eq!(rt; found.answers.as_slice(), answers);
-        assert_eq!(rt; found.out.as_slice(), out);
+    for (outside, status, line) in cases {
+        assert!(rt; stops_so(rt.alloc(), &outside, status, line)?);
     }
+    Ok(())
+}
+
+/// A supervoxel table of so many.
+fn table_of(alloc: Global, count: u64) -> Result<Vec<u8>, Fail> {
+    let mut text = Vec::from_slice(alloc, b"supervoxel\n")?;
+    for number in 0..count {
+        let id = 72057594037927937 + number % 1000;
+        text.extend_from_slice(id.to_string(alloc)?.as_bytes())?;
+        text.push(b'\n')?;
+    }
+    Ok(text)
+}
+
+/// What a call comes to over so many supervoxels and no edge.
+fn call_over(alloc: Global, count: u64) -> Result<Ran, Fail> {
+    let table = table_of(alloc, count)?;
+    let outside = Outside {
+        supervoxels: table.as_slice(),
+        edges: b"a,b,affinity,active\n",
+        ..asking(ROOTS)
+    };
+    call(alloc, WORDS, &outside)
+}
+
+/// What a call comes to over requests of so many bytes.
+fn call_with(alloc: Global, bytes: usize) -> Result<Ran, Fail> {
+    let requests = vec![in alloc; b'\n'; bytes]?;
+    call(alloc, WORDS, &asking(requests.as_slice()))
+}
+
+#[test]
+fn inputs_that_wait(rt: HostRuntime) -> Result<(), Fail> {
+    let waits = b"{\"fault\":\"NotBuilt\"}\n".as_slice();
+    let few = call_over(rt.alloc(), 255)?;
+    assert_eq!(rt; few.status, 0);
+    let many = call_over(rt.alloc(), 256)?;
+    assert_eq!(rt; many.status, 8);
+    assert_eq!(rt; many.answers.as_slice(), b"old".as_slice());
+    assert_eq!(rt; many.out.as_slice(), waits);
+    let long = call_with(rt.alloc(), 65537)?;
+    assert_eq!(rt; long.status, 8);
+    assert_eq!(rt; long.answers.as_slice(), b"".as_slice());
+    assert_eq!(rt; long.out.as_slice(), waits);
+    Ok(())
+}
+
+#[test]
+fn answers_that_do_not_open(rt: HostRuntime) -> Result<(), Fail> {
+    for (has_requests, status, line) in [
+        (
+            true,
+            4,
+            b"{\"client\":1,\"fault\":\"WriteFault\",\"file\":\"answers\"}\n".as_slice(),
+        ),
+        (
+            false,
+            2,
+            b"{\"client\":1,\"fault\":\"ReadFault\",\"file\":\"requests\"}\n",
+        ),
+    ] {
+        let mut place = ShutPlace {
+            alloc: rt.alloc(),
+            has_requests,
+        };
+        let words = words_of(rt.alloc(), WORDS)?;
+        let mut out = MemSink::new(rt.alloc(), 65536, 65536, Vec::new(rt.alloc()))?;
+        let clock = StepClock::new(5, 5);
+        let found = run(
+            rt.alloc(),
+            words.as_slice(),
+            &mut place,
+            &clock,
+            &OpenGate,
+            &mut out,
+        );
+        assert_eq!(rt; found, status);
+        assert_eq!(rt; out.into_bytes().as_slice(), line);
+    }
+    Ok(())
+}
+
+/// What a call answers over tables of other forms than the usual one.
+#[test]
+fn tables_of_other_forms(rt: HostRuntime) -> Result<(), Fail> {
+    let usual = asking(ROOTS);
+    let cases = [
+        Outside {
+            supervoxels: b"supervoxel\r\n72057594037927937\r\n\"72057594037927938\"\r\n72339069014638593\r\n72339069014638594\r\n",
+            edges: b"a,b,affinity,\"active\"\r\n72057594037927937,\"72057594037927938\",10,1\r\n72057594037927938,72339069014638593,7,1\r\n72339069014638593,72339069014638594,5,0\r\n",
+            ..usual
+        },
+        Outside {
+            supervoxels: b"supervoxel\n72339069014638594\n72057594037927938\n\n72057594037927937\n72339069014638593",
+            edges: b"a,b,affinity,active\n72339069014638594,72339069014638593,5,0\n72339069014638593,72057594037927938,7,1\n72057594037927937,72057594037927938,10,1\n",
+            ..usual
+        },
+    ];
+    for outside in cases {
+        let found = call(rt.alloc(), WORDS, &outside)?;
+        assert_eq!(rt; found.status, 0);
+        assert_eq!(rt; found.answers.as_slice(), REPLIES);
+        assert!(rt; is_log(found.out.as_slice(), SUMMARY));
+    }
+    Ok(())
+}
+
+#[test]
+fn output_that_fails(rt: HostRuntime) -> Result<(), Fail> {
+    let outside = Outside {
+        out_fails: &[1],
+        ..asking(ROOTS)
+    };
+    let found = call(rt.alloc(), WORDS, &outside)?;
+    assert_eq!(rt; found.status, 4);
+    assert_eq!(rt; found.answers.as_slice(), REPLIES);
+    assert_eq!(rt; found.out.as_slice(), b"".as_slice());
     Ok(())
 }
 
@@ -247,6 +356,7 @@ fn wrong_words(rt: HostRuntime) -> Result<(), Fail> {
         "serve --bits 8 --grid 2,1,1 --supervoxels supervoxels.csv --edges edges.csv --merge-affinity 1 --clock 1000,10 first",
         "rehearse --bits 8 --grid 2,1,1 --supervoxels supervoxels.csv --edges edges.csv --merge-affinity 1 --clock 1000,10 first second",
         "rehearse --bits 8 --supervoxels supervoxels.csv --edges edges.csv --merge-affinity 1 --clock 1000,10 first",
+        "rehearse --bits 8 --grid 2,1,1 --supervoxels supervoxels.csv --edges edges.csv --merge-affinity 1 --records 1 --clock 1000,10 first",
         "rehearse --bits 17 --grid 2,1,1 --supervoxels supervoxels.csv --edges edges.csv --merge-affinity 1 --clock 1000,10 first",
         "rehearse --bits 08 --grid 2,1,1 --supervoxels supervoxels.csv --edges edges.csv --merge-affinity 1 --clock 1000,10 first",
         "rehearse --grid 2,1,1 --bits 8 --supervoxels supervoxels.csv --edges edges.csv --merge-affinity 1 --clock 1000,10 first",

@@ -1,5 +1,5 @@
 -- Which words are a job, and which job they spell.
-use Rattle.std.specs.Prelude.{◌≡◌, ◌+◌, ◌-◌, ◌^◌, ℕ, Bool, ◌&&◌, ◌==◌, nat_le, nat_lt, if◌then◌else◌, List, [], ◌∷◌, length, codes, bytes_eq, ⊤, Option, Some, None, Result, Ok, Err, option_map, option_and_then, Vec, slice_get}
+use Rattle.std.specs.Prelude.{◌≡◌, ◌+◌, ◌-◌, ◌^◌, ℕ, Bool, ◌&&◌, ◌||◌, ◌==◌, nat_le, nat_lt, if◌then◌else◌, List, [], ◌∷◌, length, codes, bytes_eq, ⊤, Option, Some, None, Result, Ok, Err, option_map, option_and_then, Vec, slice_get}
 use Rattle.std.specs.Option.{option_map_or}
 use Rattle.std.specs.declared.alloc.Global.{Global}
 use Rattle.chunk_geometry.specs.Cells.{Cells}
@@ -51,17 +51,25 @@ ticks_of text = do
 abbrev pub name_of : List ℕ → Option (List ℕ)
 name_of text = only_if is_name text
 
--- whether the words are those of a rehearsal, apart from their values
+-- how many records the words give, which they may leave out
+unfoldable pub records_of : List (Vec ℕ Global) → Option ℕ
+records_of words = if length words == 16 then number_within 2 16777216 (word words 12) else Some 1048576
+
+-- whether there are as many words as a rehearsal has, with or without a number of records
+unfoldable pub has_count : List (Vec ℕ Global) → Bool
+has_count words = length words == 14 || (length words == 16 && bytes_eq (word words 11) (codes "--records"))
+
+-- whether the words are those of a rehearsal, apart from their values; the last three are the same in both forms
 unfoldable pub has_form : List (Vec ℕ Global) → Bool
 has_form words =
-    length words == 14
+    has_count words
     && bytes_eq (word words 0) (codes "rehearse")
     && bytes_eq (word words 1) (codes "--bits")
     && bytes_eq (word words 3) (codes "--grid")
     && bytes_eq (word words 5) (codes "--supervoxels")
     && bytes_eq (word words 7) (codes "--edges")
     && bytes_eq (word words 9) (codes "--merge-affinity")
-    && bytes_eq (word words 11) (codes "--clock")
+    && bytes_eq (word words (length words - 3)) (codes "--clock")
 
 -- the values of the words, where each has its form
 unfoldable pub values_of : List (Vec ℕ Global) → Option RehearseJob
@@ -71,9 +79,10 @@ values_of words = do
   supervoxels ← name_of (word words 6)
   edges ← name_of (word words 8)
   merge_affinity ← number_within 1 (2 ^ 32 - 1) (word words 10)
-  clock ← ticks_of (word words 12)
-  stem ← name_of (word words 13)
-  Some (record { bits = bits; grid = grid; supervoxels = supervoxels; edges = edges; merge_affinity = merge_affinity; records = 1048576; clock = clock; schedule = None; stems = stem ∷ [] })
+  records ← records_of words
+  clock ← ticks_of (word words (length words - 2))
+  stem ← name_of (word words (length words - 1))
+  Some (record { bits = bits; grid = grid; supervoxels = supervoxels; edges = edges; merge_affinity = merge_affinity; records = records; clock = clock; schedule = None; stems = stem ∷ [] })
 
 -- the job that the words spell
 unfoldable pub job_of : List (Vec ℕ Global) → Option Job

@@ -45,6 +45,56 @@ fn the_words_of_a_rehearsal(rt: HostRuntime) -> Result<(), Fail> {
     Ok(())
 }
 
+/// The words of a rehearsal with a number of records, of which one may be another.
+fn words_with_records(alloc: Global, place: usize, word: &str) -> Result<Vec<Vec<u8>>, AllocError> {
+    let usual = [
+        "rehearse",
+        "--bits",
+        "8",
+        "--grid",
+        "2,1,1",
+        "--supervoxels",
+        "sv.csv",
+        "--edges",
+        "edges.csv",
+        "--merge-affinity",
+        "1",
+        "--records",
+        "2",
+        "--clock",
+        "1000,10",
+        "first",
+    ];
+    let mut list = Vec::new(alloc);
+    for (k, text) in usual.into_iter().enumerate() {
+        let text = if k == place { word } else { text };
+        let bytes = Vec::from_slice(alloc, text.as_bytes())?;
+        list.push(bytes)?;
+    }
+    Ok(list)
+}
+
+#[test]
+fn words_that_give_records(rt: HostRuntime) -> Result<(), Fail> {
+    for (place, word, records) in [
+        (12, "2", Some(2)),
+        (12, "16777216", Some(16777216)),
+        (12, "1", None),
+        (12, "16777217", None),
+        (12, "02", None),
+        (11, "--record", None),
+        (13, "--records", None),
+    ] {
+        let list = words_with_records(rt.alloc(), place, word)?;
+        let read = match read_words(rt.alloc(), list.as_slice()) {
+            Ok(Job::Rehearse(job)) => Some(job.records),
+            Err(_) => None,
+        };
+        assert_eq!(rt; read, records, "{word} at {place}");
+    }
+    Ok(())
+}
+
 #[test]
 fn wrong_words(rt: HostRuntime) -> Result<(), Fail> {
     let cases = [

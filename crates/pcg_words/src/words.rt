@@ -1,7 +1,7 @@
 //! The words of the command line.
 
-ghost use Rattle.std.specs.Prelude.{◌≡◌, ◌≤◌, ◌∷◌, [], IfOk, OnOk, OnErr, IsTrue, length};
-ghost use Rattle.pcg_words.specs.Words.{MeetsMode, Spells, has_form, job_of, name_of, values_of};
+ghost use Rattle.std.specs.Prelude.{◌≡◌, ◌≤◌, ◌∷◌, [], IfOk, IfSome, OnOk, OnErr, IsTrue, length};
+ghost use Rattle.pcg_words.specs.Words.{MeetsMode, Spells, has_count, has_form, job_of, name_of, records_of, values_of};
 ghost use Rattle.pcg_words.specs.Job.{HasRanges};
 
 use crate::files::{all_differ, job_files};
@@ -39,26 +39,48 @@ pub fn read_words(alloc: Global, words: &[Vec<u8>]) -> Result<Job, WordsError>
     Ok(Job::Rehearse(job))
 }
 
+/// Whether there are as many words as a rehearsal has, with or without a number of records.
+#[tactic(auto, unfolding(crate::specs::Words::has_count))]
+fn has_count(words: &[Vec<u8>]) -> bool
+    ensures is { result ≡ has_count words.now }
+    ensures count { IsTrue result → 14 ≤ length words.now }
+{
+    words.len() == 14 || (words.len() == 16 && word(words, 11) == b"--records".as_slice())
+}
+
 /// Whether the words are those of a rehearsal, apart from their values.
 #[tactic(auto, unfolding(crate::specs::Words::has_form))]
 fn has_form(words: &[Vec<u8>]) -> bool
     ensures is { result ≡ has_form words.now }
-    ensures count { IsTrue result → length words.now ≡ 14 }
+    ensures count { IsTrue result → 14 ≤ length words.now }
 {
-    words.len() == 14
+    has_count(words)
         && word(words, 0) == b"rehearse".as_slice()
         && word(words, 1) == b"--bits".as_slice()
         && word(words, 3) == b"--grid".as_slice()
         && word(words, 5) == b"--supervoxels".as_slice()
         && word(words, 7) == b"--edges".as_slice()
         && word(words, 9) == b"--merge-affinity".as_slice()
-        && word(words, 11) == b"--clock".as_slice()
+        && word(words, words.len() - 3) == b"--clock".as_slice()
+}
+
+/// How many records the words give.
+#[tactic(auto, unfolding(crate::specs::Words::records_of))]
+fn records_of(words: &[Vec<u8>]) -> Option<u64>
+    ensures is { result ≡ records_of words.now }
+    ensures within { IfSome result (λ n. (2 ≤ n) × (n ≤ 16777216)) }
+{
+    if words.len() == 16 {
+        number_within(2, 16777216, word(words, 12))
+    } else {
+        Some(1048576)
+    }
 }
 
 /// The job of words that have the form, before its files are compared.
 #[tactic(auto, unfolding(crate::specs::Words::values_of))]
 fn values_of(alloc: Global, words: &[Vec<u8>]) -> Result<RehearseJob, WordsError>
-    requires { length words.now ≡ 14 }
+    requires { 14 ≤ length words.now }
     ensures spells { Spells (values_of words.now) result }
     ensures ranges { IfOk result (λ job. HasRanges job) }
 {
@@ -73,10 +95,13 @@ fn values_of(alloc: Global, words: &[Vec<u8>]) -> Result<RehearseJob, WordsError
     let Some(merge_affinity) = number_within(1, 4294967295, word(words, 10)) else {
         return Err(WordsError::BadWords);
     };
-    let Some(clock) = ticks_of(word(words, 12)) else {
+    let Some(records) = records_of(words) else {
         return Err(WordsError::BadWords);
     };
-    let stem = name_of(alloc, word(words, 13))?;
+    let Some(clock) = ticks_of(word(words, words.len() - 2)) else {
+        return Err(WordsError::BadWords);
+    };
+    let stem = name_of(alloc, word(words, words.len() - 1))?;
     let stems = one_name(alloc, stem)?;
     Ok(RehearseJob {
         bits,
@@ -84,7 +109,7 @@ fn values_of(alloc: Global, words: &[Vec<u8>]) -> Result<RehearseJob, WordsError
         supervoxels,
         edges,
         merge_affinity,
-        records: 1048576,
+        records,
         clock,
         schedule: None,
         stems,

@@ -1,126 +1,121 @@
--- What two tables spell is a base.
-use Rattle.std.proofs.Common.{◌≡◌, ℕ, ◌^◌, ◌≤◌, Bool, true, false, cond, ◌&&◌, eqb, ltb, leb, List, [], ◌∷◌, length, Option, Some, None, option_map, codes, arith, refl, ◌∙◌, ap, subst}
-use Rattle.std.specs.Option.{option_and_then}
-use Rattle.std.specs.List.{AllByRecursion, list_all}
-use Rattle.std.proofs.lemmas.Bool.{eqb-true, ltb-true, leb-true, and_parts}
+-- What two tables spell is a base, and each two texts spell one thing.
+use Rattle.std.proofs.Common.{◌≡◌, ℕ, true, false, eqb, ltb, List, [], ◌∷◌, Result, Ok, Err, ◌⊎◌, inl, inr, refl, sym, ◌∙◌, ap, subst, arith}
+use Rattle.std.specs.List.{AllByRecursion, list_any}
+use Rattle.std.proofs.lemmas.Bool.{ltb-true, or_from}
 use Rattle.op_model.specs.declared.Dataset.{Dataset}
+use Rattle.op_model.specs.declared.Base.{Base}
+use Rattle.op_model.specs.declared.Pair.{Pair}
 use Rattle.op_model.specs.declared.Edge.{Edge}
-use Rattle.op_model.specs.declared.Weight.{Weight}
-use Rattle.op_model.specs.declared.Weight.TheVariants.{Affinity, Glue}
-use Rattle.op_model.specs.Edges.{put_edges}
+use Rattle.op_model.specs.Edges.{same_pair, pair_before, put_edges}
 use Rattle.op_model.specs.Operations.{ascending}
-use Rattle.op_model.specs.Valid.{IsBase, IsSupervoxel, IsEdge, IsWeight, IsAscending, PairsDiffer}
-use Rattle.graph_model.specs.Lists.{has}
-use Rattle.node_ids.specs.Ids.{parts_of}
-use Rattle.node_ids.specs.Digits.{number_of}
-use Rattle.table_ingest.specs.Tables.{only_if, table}
-use Rattle.table_ingest.specs.Rows.{is_supervoxel, is_edge, is_weight, ids_differ, pairs_differ}
-use Rattle.table_ingest.specs.Plain.{are_supervoxels, are_edges, supervoxels_of, edges_of, row_of}
-use Rattle.table_ingest.proofs.PutLemmas.{ascending_all, ascending_length, ascending_ascends, puts_all, puts_differ, puts_length, apart_none}
+use Rattle.op_model.specs.Valid.{IsBase, IsSupervoxel, IsEdge, IsAscending, PairsDiffer}
+use Rattle.op_model.proofs.LegalLemmas.{ascending_has}
+use Rattle.table_ingest.specs.Records.{Are}
+use Rattle.table_ingest.specs.Faults.{Fault, ◌>>=◌}
+use Rattle.table_ingest.specs.Supervoxels.{ids_of}
+use Rattle.table_ingest.specs.Edges.{edges_of, same_ends}
+use Rattle.table_ingest.specs.Bases.{base_of, Spells, Faulty, AscendByPair}
+use Rattle.table_ingest.specs.declared.errors.Table.{Table}
+use Rattle.table_ingest.specs.declared.errors.Cause.{Cause}
+use Rattle.table_ingest.proofs.Orders.{Ascends, In, all_in, all_more}
+use Rattle.table_ingest.proofs.Places.{ids_order, edges_order, edge_before, put_ids, put_rows}
+use Rattle.table_ingest.proofs.Facts.{ids_good, edges_good}
+use Rattle.table_ingest.proofs.Total.{some_rows, same_rows}
 
-bound : {A B : Type 0} (f : A → Option B) (o : Option A) (y : B) → option_and_then f o ≡ Some y → (x : A) × (o ≡ Some x) × (f x ≡ Some y)
-bound f None y e = cc
-bound f (Some x) y e = (x, refl, e)
+ids_ascend : (xs : List ℕ) → Ascends ltb eqb ids_order xs → IsAscending xs
+ids_ascend [] a = tt
+ids_ascend (x ∷ []) a = tt
+ids_ascend (x ∷ y ∷ ys) a = (ltb-true x y a.0.0, ids_ascend (y ∷ ys) a.1)
 
-mapped : {A B : Type 0} (f : A → B) (o : Option A) (y : B) → option_map f o ≡ Some y → (x : A) × (o ≡ Some x) × (f x ≡ y)
-mapped f None y e = cc
-mapped f (Some x) y e = (x, refl, cc)
+edges_ascend : (es : List Edge) → Ascends edge_before same_ends edges_order es → AscendByPair es
+edges_ascend [] a = tt
+edges_ascend (e ∷ []) a = tt
+edges_ascend (e ∷ f ∷ es) a = (a.0.0, edges_ascend (f ∷ es) a.1)
 
-passed : {A : Type 0} (test : A → Bool) (x y : A) → only_if test x ≡ Some y → (test x ≡ true) × (x ≡ y)
-passed test x y e = go (test x) refl e
-  where
-    go : (b : Bool) → test x ≡ b → cond b (Some x) None ≡ Some y → (test x ≡ true) × (x ≡ y)
-    go true t f = (t, cc)
-    go false t f = cc
+before_differs : (p q : Pair) → pair_before p q ≡ true → same_pair q p ≡ false
+unfolding pair_before same_pair
+before_differs p q e = grind (arith, e)
 
--- the rows that a table of supervoxels was made of
-supervoxels_made : (d : Dataset) (text known : List ℕ) → supervoxels_of d text ≡ Some known → (ids : List ℕ) × (are_supervoxels d ids ≡ true) × (ascending ids ≡ known)
-unfolding supervoxels_of
-supervoxels_made d text known e =
-    let m = mapped ascending (option_and_then (only_if (are_supervoxels d)) (table (codes "supervoxel") number_of text)) known e in
-    let b = bound (only_if (are_supervoxels d)) (table (codes "supervoxel") number_of text) m.0 m.1 in
-    let p = passed (are_supervoxels d) b.0 m.0 b.2 in
-    (b.0, p.0, ap ascending p.1 ∙ m.2)
+none_among : (e : Edge) (es : List Edge) → AllByRecursion (λ f. edge_before e f ≡ true) es → list_any (λ f. same_pair f.pair e.pair) es ≡ false
+none_among e [] a = refl
+none_among e (f ∷ es) a = or_from _ _ (before_differs e.pair f.pair a.0) (none_among e es a.1)
 
-edges_made : (known text : List ℕ) (kept : List Edge) → edges_of known text ≡ Some kept → (rows : List Edge) × (are_edges known rows ≡ true) × (put_edges rows [] ≡ kept)
-unfolding edges_of
-edges_made known text kept e =
-    let m = mapped (λ rows. put_edges rows []) (option_and_then (only_if (are_edges known)) (table (codes "a,b,affinity,active") row_of text)) kept e in
-    let b = bound (only_if (are_edges known)) (table (codes "a,b,affinity,active") row_of text) m.0 m.1 in
-    let p = passed (are_edges known) b.0 m.0 b.2 in
-    (b.0, p.0, ap (λ rows. put_edges rows []) p.1 ∙ m.2)
+edges_differ : (es : List Edge) → Ascends edge_before same_ends edges_order es → PairsDiffer es
+edges_differ [] a = tt
+edges_differ (e ∷ es) a = (none_among e es a.0, edges_differ es a.1)
 
-all_from_test : {X : Type 0} (test : X → Bool) (P : X → Type 0) → ((x : X) → test x ≡ true → P x) → (xs : List X) → list_all test xs ≡ true → AllByRecursion P xs
-all_from_test test P h [] e = tt
-all_from_test test P h (x ∷ xs) e =
-    let m = and_parts (test x) (list_all test xs) e in
-    (h x m.0, all_from_test test P h xs m.1)
+bound : {A B : Type 0} (m : Result A Fault) (f : A → Result B Fault) (y : B) → (m >>= f) ≡ Ok y → (x : A) × (m ≡ Ok x) × (f x ≡ Ok y)
+bound (Ok x) f y e = (x, refl, e)
+bound (Err c) f y e = cc e
 
-one_supervoxel : (d : Dataset) (v : ℕ) → is_supervoxel d v ≡ true → IsSupervoxel d v
-unfolding is_supervoxel
-one_supervoxel d v e =
-    let p = parts_of d.layout v in
-    let a = and_parts (eqb p.layer 1 && ltb p.x d.grid.x && ltb p.y d.grid.y && ltb p.z d.grid.z) (leb 1 p.segment) e in
-    let b = and_parts (eqb p.layer 1 && ltb p.x d.grid.x && ltb p.y d.grid.y) (ltb p.z d.grid.z) a.0 in
-    let c = and_parts (eqb p.layer 1 && ltb p.x d.grid.x) (ltb p.y d.grid.y) b.0 in
-    let f = and_parts (eqb p.layer 1) (ltb p.x d.grid.x) c.0 in
-    (eqb-true _ _ f.0, ltb-true _ _ f.1, ltb-true _ _ c.1, ltb-true _ _ b.1, leb-true _ _ a.1)
+abbrev Valid : Dataset → Base → Type 0
+Valid d b = IsBase d b × AscendByPair b.edges
 
-one_weight : (w : Weight) (active : Bool) → is_weight w active ≡ true → IsWeight w active
-one_weight (Affinity n) active e =
-    let a = and_parts (leb 1 n) (ltb n (2 ^ 32)) e in
-    (leb-true _ _ a.0, ltb-true _ _ a.1)
-one_weight Glue active e = e
+edge_ascended : (ids : List ℕ) (e : Edge) → IsEdge ids e → IsEdge (ascending ids) e
+edge_ascended ids e g = (g.0, ascending_has ids e.pair.a g.1, ascending_has ids e.pair.b g.2, g.3)
 
-one_edge : (known : List ℕ) (e : Edge) → is_edge known e ≡ true → IsEdge known e
-unfolding is_edge
-one_edge known e h =
-    let a = and_parts (ltb e.pair.a e.pair.b && has known e.pair.a && has known e.pair.b) (is_weight e.weight e.active) h in
-    let b = and_parts (ltb e.pair.a e.pair.b && has known e.pair.a) (has known e.pair.b) a.0 in
-    let c = and_parts (ltb e.pair.a e.pair.b) (has known e.pair.a) b.0 in
-    (ltb-true _ _ c.0, c.1, b.1, one_weight e.weight e.active a.1)
-
-abbrev AreKnown : Dataset → List ℕ → Type 0
-AreKnown d known = IsAscending known × AllByRecursion (IsSupervoxel d) known × (length known ≤ 255)
-
-known_valid : (d : Dataset) (ids : List ℕ) → are_supervoxels d ids ≡ true → AreKnown d (ascending ids)
-unfolding are_supervoxels
-known_valid d ids e =
-    let a = and_parts (leb (length ids) 255 && ids_differ ids) (list_all (is_supervoxel d) ids) e in
-    let b = and_parts (leb (length ids) 255) (ids_differ ids) a.0 in
-    let few = leb-true _ _ b.0 in
-    let long = ascending_length ids in
-    (ascending_ascends ids, ascending_all (IsSupervoxel d) ids (all_from_test (is_supervoxel d) (IsSupervoxel d) (one_supervoxel d) ids a.1), omega arith)
-
-abbrev AreKept : List ℕ → List Edge → Type 0
-AreKept known kept = AllByRecursion (IsEdge known) kept × PairsDiffer kept × (length kept ≤ 1000)
-
-kept_valid : (known : List ℕ) (rows : List Edge) → are_edges known rows ≡ true → AreKept known (put_edges rows [])
-unfolding are_edges
-kept_valid known rows e =
-    let a = and_parts (leb (length rows) 1000 && pairs_differ rows) (list_all (is_edge known) rows) e in
-    let b = and_parts (leb (length rows) 1000) (pairs_differ rows) a.0 in
-    let few = leb-true _ _ b.0 in
-    let long = puts_length rows [] in (
-      puts_all (IsEdge known) rows [] b.1 (apart_none rows) (all_from_test (is_edge known) (IsEdge known) (one_edge known) rows a.1) tt,
-      puts_differ rows [] b.1 (apart_none rows) tt,
-      omega arith,
+made_valid : (d : Dataset) (rows others : List (List (List ℕ))) (ids : List ℕ) (edges : List Edge) → ids_of d rows ≡ Ok ids → edges_of ids others ≡ Ok edges
+    → Valid d (record { supervoxels = ascending ids; edges = put_edges edges [] })
+made_valid d rows others ids edges i e =
+    let good = ids_good d rows ids i in
+    let kept = edges_good ids others edges e in
+    let p = put_ids ids good.0 in
+    let q = put_rows edges kept.0 in (
+      record {
+        ascending = ids_ascend (ascending ids) p.ascends;
+        supervoxels = all_more (λ z. In z ids) (IsSupervoxel d) (λ z j. all_in (IsSupervoxel d) ids z good.1 j) (ascending ids) p.from;
+        edges = all_more (λ z. In z edges) (IsEdge (ascending ids)) (λ z j. edge_ascended ids z (all_in (IsEdge ids) edges z kept.1 j)) (put_edges edges []) q.from;
+        once = edges_differ (put_edges edges []) q.ascends;
+      },
+      edges_ascend (put_edges edges []) q.ascends,
     )
 
-tables_valid : (d : Dataset) (supervoxels edges known : List ℕ) (kept : List Edge) → supervoxels_of d supervoxels ≡ Some known → edges_of known edges ≡ Some kept → AreKnown d known × AreKept known kept
-tables_valid d supervoxels edges known kept k r =
-    let ids = supervoxels_made d supervoxels known k in
-    let rows = edges_made known edges kept r in
-    (subst (AreKnown d) ids.2 (known_valid d ids.0 ids.1), subst (AreKept known) rows.2 (kept_valid known rows.0 rows.1))
+-- a base of two tables is one of the dataset
+pub base_valid : (d : Dataset) (rows others : List (List (List ℕ))) (b : Base) → base_of d rows others ≡ Ok b → IsBase d b × AscendByPair b.edges
+unfolding base_of
+base_valid d rows others b h =
+    let i = bound (ids_of d rows) _ b h in
+    let e = bound (edges_of i.0 others) _ b i.2 in
+    let made : Base = record { supervoxels = ascending i.0; edges = put_edges e.0 [] } in
+    let same : made ≡ b = cc e.2 in
+    subst (Valid d) same (made_valid d rows others i.0 e.0 i.1 e.1)
 
--- what the tables spell is a base of the dataset
-pub is_base : (d : Dataset) (supervoxels edges known : List ℕ) (kept : List Edge) → supervoxels_of d supervoxels ≡ Some known → edges_of known edges ≡ Some kept → IsBase d (record { supervoxels = known; edges = kept })
-is_base d supervoxels edges known kept k r =
-    let v = tables_valid d supervoxels edges known kept k r in
-    record { ascending = v.0.0; supervoxels = v.0.1; edges = v.1.0; once = v.1.1 }
+pub spelled_valid : (d : Dataset) (supervoxels edges : List ℕ) (b : Base) → Spells d supervoxels edges b → IsBase d b × AscendByPair b.edges
+spelled_valid d supervoxels edges b s = base_valid d s.0 s.1 b s.4
 
--- it has few supervoxels and edges
-pub is_small : (d : Dataset) (supervoxels edges known : List ℕ) (kept : List Edge) → supervoxels_of d supervoxels ≡ Some known → edges_of known edges ≡ Some kept → (length known ≤ 255) × (length kept ≤ 1000)
-is_small d supervoxels edges known kept k r =
-    let v = tables_valid d supervoxels edges known kept k r in
-    (v.0.2, v.1.2)
+abbrev Meant : Dataset → List ℕ → List ℕ → Type 0
+Meant d supervoxels edges = ((b : Base) × Spells d supervoxels edges b) ⊎ ((t : Table) × (n : ℕ) × (c : Cause) × Faulty d supervoxels edges t n c)
+
+pub meant : (d : Dataset) (supervoxels edges : List ℕ) → Meant d supervoxels edges
+meant d supervoxels edges = go (some_rows supervoxels) (some_rows edges)
+  where
+    go : ((rows : List (List (List ℕ))) × Are supervoxels rows) → ((rows : List (List (List ℕ))) × Are edges rows) → Meant d supervoxels edges
+    go (rows, are) (others, these) = by (base_of d rows others) refl
+      where
+        by : (r : Result Base Fault) → base_of d rows others ≡ r → Meant d supervoxels edges
+        by (Ok b) e = inl (b, (rows, others, are, these, e))
+        by (Err f) e = inr (f.table, f.row, f.cause, (rows, others, are, these, e))
+
+-- one result of two texts
+one_result : (d : Dataset) (supervoxels edges : List ℕ) (one two one2 two2 : List (List (List ℕ))) → Are supervoxels one → Are supervoxels two → Are edges one2 → Are edges two2 → base_of d one one2 ≡ base_of d two two2
+one_result d supervoxels edges one two one2 two2 a b a2 b2 =
+    ap (λ rows. base_of d rows one2) (same_rows supervoxels one two a b) ∙ ap (base_of d two) (same_rows edges one2 two2 a2 b2)
+
+pub base_or_fault : (d : Dataset) (supervoxels edges : List ℕ) (b : Base) (t : Table) (n : ℕ) (c : Cause) → Spells d supervoxels edges b → Faulty d supervoxels edges t n c → ⊥
+base_or_fault d supervoxels edges b t n c s f =
+    let e = sym s.4 ∙ one_result d supervoxels edges s.0 f.0 s.1 f.1 s.2 f.2 s.3 f.3 ∙ f.4 in cc e
+
+pub one_base : (d : Dataset) (supervoxels edges : List ℕ) (one two : Base) → Spells d supervoxels edges one → Spells d supervoxels edges two → one ≡ two
+one_base d supervoxels edges one two s f =
+    let e = sym s.4 ∙ one_result d supervoxels edges s.0 f.0 s.1 f.1 s.2 f.2 s.3 f.3 ∙ f.4 in cc e
+
+same_fault : (f g : Fault) → f ≡ g → (f.table ≡ g.table) × (f.row ≡ g.row) × (f.cause ≡ g.cause)
+same_fault f g e = (ap (λ (x : Fault). x.table) e, ap (λ (x : Fault). x.row) e, ap (λ (x : Fault). x.cause) e)
+
+pub one_fault : (d : Dataset) (supervoxels edges : List ℕ) (t t2 : Table) (n n2 : ℕ) (c c2 : Cause) → Faulty d supervoxels edges t n c → Faulty d supervoxels edges t2 n2 c2 → (t ≡ t2) × (n ≡ n2) × (c ≡ c2)
+one_fault d supervoxels edges t t2 n n2 c c2 s f =
+    let e = sym s.4 ∙ one_result d supervoxels edges s.0 f.0 s.1 f.1 s.2 f.2 s.3 f.3 ∙ f.4 in
+    let one : Fault = record { table = t; row = n; cause = c } in
+    let two : Fault = record { table = t2; row = n2; cause = c2 } in
+    let same : one ≡ two = cc e in
+    same_fault one two same

@@ -1,4 +1,11 @@
-mod RowLemmas
-mod PutLemmas
-mod PlaceLemmas
-mod BaseLemmas
+mod Rows
+mod Total
+mod Names
+mod Meanings
+mod Pairs
+mod Orders
+mod Places
+mod Facts
+pub mod BaseLemmas
+mod ReadLemmas
+mod FirstLemmas

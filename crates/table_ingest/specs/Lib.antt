@@ -1,3 +1,8 @@
+pub mod Records
+pub mod Faults
 pub mod Tables
-pub mod Rows
-pub mod Plain
+pub mod Supervoxels
+pub mod Edges
+pub mod Bases
+pub mod Firsts
+pub mod Laws

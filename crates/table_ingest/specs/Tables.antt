@@ -1,36 +1,36 @@
--- Tables: a header and, behind it, one record a line.
-use Rattle.std.specs.Prelude.{ℕ, Bool, List, [], ◌∷◌, Option, Some, None, option_and_then, bytes_eq, if◌then◌else◌}
-use Rattle.pcg_base.specs.Cutting.{cut_at, ended_lines}
+-- A table: a header and, behind it, records that each mean something, or else the first record that doesn't.
+use Rattle.std.specs.Prelude.{◌≡◌, ⊤, ℕ, ◌+◌, Bool, if◌then◌else◌, List, [], ◌∷◌, ◌++◌, Result, Ok, Err}
+use Rattle.table_ingest.specs.Faults.{Fault}
+use Rattle.table_ingest.specs.declared.errors.Table.{Table}
+use Rattle.table_ingest.specs.declared.errors.Cause.{Cause}
+use Rattle.table_ingest.specs.declared.errors.Cause.TheVariants as cause
+use Rattle.table_ingest.specs.declared.errors.TableError.{TableError}
+use Rattle.table_ingest.specs.declared.errors.TableError.TheVariants as errors
 
-infixl 10 ◌>>=◌
-abbrev pub ◌>>=◌ : {A B : Type 0} → Option A → (A → Option B) → Option B
-o >>= f = option_and_then f o
+-- what a record means decides how it goes on, or its cause is the fault of the record with this number
+abbrev pub at_record : {A B : Type 0} → Table → ℕ → Result A Cause → (A → Result B Fault) → Result B Fault
+at_record t n (Ok x) more = more x
+at_record t n (Err c) more = Err (record { table = t; row = n; cause = c })
 
--- the value, if the test holds of it
-abbrev pub only_if : {A : Type 0} → (A → Bool) → A → Option A
-only_if test x = if test x then Some x else None
+-- what the records mean, each read with the meanings of those before it, from the record with this number on
+unfoldable pub meanings : {A : Type 0} → Table → (List A → List (List ℕ) → Result A Cause) → List A → ℕ → List (List (List ℕ)) → Result (List A) Fault
+meanings t read before n [] = Ok before
+meanings t read before n (fields ∷ rows) = at_record t n (read before fields) (λ x. meanings t read (before ++ x ∷ []) (n + 1) rows)
 
--- the texts behind the first one, if that is the header
-unfoldable pub records : List ℕ → List (List ℕ) → Option (List (List ℕ))
-records header [] = None
-records header (line ∷ lines) = if bytes_eq line header then Some lines else None
+-- the meanings of the records behind the header
+unfoldable pub table_of : {A : Type 0} → Table → (List (List ℕ) → Bool) → (List A → List (List ℕ) → Result A Cause) → List (List (List ℕ)) → Result (List A) Fault
+table_of t is_header read [] = Err (record { table = t; row = 0; cause = cause.BadHeader })
+table_of t is_header read (header ∷ rows) =
+    if is_header header then meanings t read [] 1 rows else Err (record { table = t; row = 0; cause = cause.BadHeader })
 
--- what the texts mean, if each means something
-unfoldable pub read_each : {A : Type 0} → (List ℕ → Option A) → List (List ℕ) → Option (List A)
-read_each read [] = Some []
-read_each read (text ∷ texts) = do
-  x ← read text
-  xs ← read_each read texts
-  Some (x ∷ xs)
+-- this was wanted, unless memory ran out
+abbrev pub Gives : {A V : Type 0} → (V → A) → Result V TableError → Result A Fault → Type 0
+Gives view (Ok found) wanted = wanted ≡ Ok (view found)
+Gives view (Err (errors.Bad t n c)) wanted = wanted ≡ Err (record { table = t; row = n; cause = c })
+Gives view (Err errors.NoMemory) wanted = ⊤
 
--- the rows of a table in the plain form: a line feed ends each line, the first line is the header, and each other line is a row
-unfoldable pub table : {A : Type 0} → List ℕ → (List ℕ → Option A) → List ℕ → Option (List A)
-table header read text = ended_lines text >>= records header >>= read_each read
-
--- what stands behind the first line of a text, if that is the header
-unfoldable pub behind_header : List ℕ → List ℕ → Option (List ℕ)
-behind_header header text = cut_at 10 text >>= (λ p. if bytes_eq p.0 header then Some p.1 else None)
-
--- what the lines of a text mean, if a line feed ends each and each means something
-unfoldable pub rows : {A : Type 0} → (List ℕ → Option A) → List ℕ → Option (List A)
-rows read text = ended_lines text >>= read_each read
+-- a record was taken behind these items or refused with its number, as its meaning says, unless memory ran out
+abbrev pub Took : {A V : Type 0} → Table → ℕ → List A → Result V TableError → List A → Result A Cause → Type 0
+Took {A} t n before (Ok u) after meaning = (x : A) × (meaning ≡ Ok x) × (after ≡ before ++ x ∷ [])
+Took t n before (Err (errors.Bad t2 n2 c)) after meaning = (t2 ≡ t) × (n2 ≡ n) × (meaning ≡ Err c)
+Took t n before (Err errors.NoMemory) after meaning = ⊤

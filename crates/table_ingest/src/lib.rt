@@ -1,20 +1,27 @@
 //! Two tables become the supervoxels and edges that a log begins with.
 //!
-//! [`read_plain_base`] reads the plain form: CSV with no quote and no carriage return, where one line
-//! feed ends each line and the first line is the header. It answers the base that the tables spell, or
-//! `NotBuilt` exactly where they spell none.
+//! [`read_base`] reads any two texts as CSV tables. It answers the base that they spell, or names the
+//! first record with a cause, and its first cause, those of the supervoxel table before those of the edge
+//! table. Each record is read once; beside the base, memory is taken for the names of its supervoxels, for
+//! the pairs of its edges and for one record.
 //!
-//! - `plain`: the call.
-//! - `lines`: the lines of a table, and its rows.
-//! - `fields`: what the fields of a row spell.
-//! - `valid`: which rows make a base.
-//! - `sorting`: ids and edges in their places.
+//! - `base`: the call.
+//! - `errors`: what may be wrong with a table.
+//! - `records`: the records of a text, one after the other.
+//! - `supervoxels`, `edges`: what the records of the two tables mean.
+//! - `sorting`: ids and edges in order.
+//! - `laws`: the laws, each the contract of a function that does nothing.
 #![tactic(auto)]
 
-mod fields;
-mod lines;
-mod plain;
+mod base;
+mod edges;
+mod errors;
+pub mod laws;
+mod records;
 mod sorting;
-mod valid;
+mod supervoxels;
+#[cfg(test)]
+mod tests;
 
-pub use plain::{PlainError, read_plain_base};
+pub use base::read_base;
+pub use errors::{Cause, Table, TableError};

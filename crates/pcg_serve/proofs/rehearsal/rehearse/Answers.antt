@@ -26,4 +26,4 @@ returns-clause-came g c =
     (record { reads = g.P.Place.read_faults c.read_tables.new.place; writes = g.P.Place.write_faults c.read_tables.new.place; counts = g.P.Place.counts c.read_tables.new.place })
     (record { reads = g.P.Place.read_faults c.run_client.new.place; writes = g.P.Place.write_faults c.run_client.new.place; counts = g.P.Place.counts c.run_client.new.place })
     c.in_ok-ingest.ensures.made c.in_ok-ingest.ensures.dataset c.in_ok-ingest.ensures.base c.read_tables.ensures.files c.in-Some.ensures.only c.in-Some.ensures.one ends c.read_tables.ensures.later
-    c.in_ok-ended.ensures.read c.in_ok-ended.ensures.write of.one.0 of.one.1 of.one.2 of.all_faults of.records of.roots of.status
+    c.in_ok-ended.ensures.cause of.one.0 of.one.1 of.one.2 of.all_faults of.records of.roots of.status

@@ -1,0 +1,91 @@
+-- A session's fault: the counts that rose.
+use Rattle.std.proofs.Common.{◌≡◌, ◌≤◌, ℕ, ◌+◌, List, [], ◌∷◌, bytes_eq, Option, Some, None, refl, sym, ◌∙◌, ap, subst, arith}
+use Rattle.std.specs.Prelude.{◌≢◌, codes, ◌++◌}
+use Rattle.std.proofs.lemmas.Bool.{false≢true}
+use Rattle.pcg_base.specs.Causes.{Rose, added}
+use Rattle.pcg_base.specs.Told.{Counts, OpensSource, OpensSink}
+use Rattle.pcg_words.specs.Job.{request_file, answer_file}
+use Rattle.pcg_serve.specs.declared.summary.Fault.{Fault}
+use Rattle.pcg_serve.specs.declared.summary.Fault.TheVariants as faults
+use Rattle.pcg_serve.specs.Causes.{IsLater, ReadBroke, Seen, WriteBroke}
+use Rattle.pcg_serve.specs.Headline.{FaultCause, OnlyFaultCause}
+use Rattle.pcg_serve.proofs.Later.{rose_after}
+
+append_same : (xs ys zs : List ℕ) → xs ++ ys ≡ xs ++ zs → ys ≡ zs
+append_same [] ys zs e = e
+append_same (x ∷ xs) ys zs e = append_same xs ys zs (cc)
+
+-- a client's two files have two names
+pub files_differ : (stem : List ℕ) → request_file stem ≢ answer_file stem
+files_differ stem e = false≢true (ap (bytes_eq (codes ".req")) (sym (append_same stem (codes ".req") (codes ".ans") e)))
+
+rose_added : (a b n : ℕ) → b ≡ a → Rose 0 n → Rose a (added b n)
+rose_added a b n e h = omega (arith, e, h)
+
+pub read_broke : (stem requests answers requests' answers' : List ℕ) (s0 s1 s2 s3 s4 : Seen) (start n : ℕ) → requests ≡ request_file stem → answers ≡ answer_file stem → requests' ≡ request_file stem → answers' ≡ answer_file stem
+    → OpensSource (s0.counts requests) (s1.counts requests) → ((name : List ℕ) → name ≢ answers → s2.counts name ≡ s1.counts name)
+    → s3.counts requests' ≡ record (s2.counts requests') { source_faults = added (s2.counts requests').source_faults n } → ((name : List ℕ) → name ≢ answers' → s4.counts name ≡ s3.counts name)
+    → start ≡ 0 → Rose start n → s0.reads ≤ s1.reads → s2.reads ≡ s1.reads → s3.reads ≡ added s2.reads n → s4.reads ≡ s3.reads → ReadBroke s0 s4 (request_file stem)
+read_broke stem requests answers requests' answers' s0 s1 s2 s3 s4 start n r a r' a' opens other here last zero rose r01 r12 r23 r34 =
+    let O : List ℕ → Type 0 = λ x. OpensSource (s0.counts x) (s1.counts x) in
+    let H : List ℕ → Type 0 = λ x. s3.counts x ≡ record (s2.counts x) { source_faults = added (s2.counts x).source_faults n } in
+    let opened = subst O r opens in
+    let kept = subst H r' here in
+    let away : request_file stem ≢ answers = λ e. files_differ stem (e ∙ a) in
+    let away' : request_file stem ≢ answers' = λ e. files_differ stem (e ∙ a') in
+    let was : (s2.counts (request_file stem)).source_faults ≡ (s0.counts (request_file stem)).source_faults =
+    ap (λ (c : Counts). c.source_faults) (other (request_file stem) away) ∙ opened.source_faults in
+    let now : (s4.counts (request_file stem)).source_faults ≡ added (s2.counts (request_file stem)).source_faults n =
+    ap (λ (c : Counts). c.source_faults) (last (request_file stem) away' ∙ kept) in
+    let Z : ℕ → Type 0 = λ z. Rose z n in
+    let up : Rose 0 n = subst Z zero rose in
+    record {
+      place = omega (arith, up, r01, r12, r23, r34);
+      here = omega (arith, up, was, now);
+    }
+
+pub write_broke : (stem answers answers' : List ℕ) (s0 s1 s2 s3 s4 : Seen) (requests requests' : List ℕ) (start n : ℕ) → requests ≡ request_file stem → answers ≡ answer_file stem → requests' ≡ request_file stem → answers' ≡ answer_file stem
+    → ((name : List ℕ) → name ≢ requests → s1.counts name ≡ s0.counts name) → OpensSink (s1.counts answers) (s2.counts answers)
+    → ((name : List ℕ) → name ≢ requests' → s3.counts name ≡ s2.counts name) → s4.counts answers' ≡ record (s3.counts answers') { sink_faults = added (s3.counts answers').sink_faults n }
+    → start ≡ 0 → Rose start n → s1.writes ≡ s0.writes → s1.writes ≤ s2.writes → s3.writes ≡ s2.writes → s4.writes ≡ added s3.writes n → WriteBroke s0 s4 (answer_file stem)
+write_broke stem answers answers' s0 s1 s2 s3 s4 requests requests' start n r a r' a' other opens last here zero rose w01 w12 w23 w34 =
+    let O : List ℕ → Type 0 = λ x. OpensSink (s1.counts x) (s2.counts x) in
+    let H : List ℕ → Type 0 = λ x. s4.counts x ≡ record (s3.counts x) { sink_faults = added (s3.counts x).sink_faults n } in
+    let opened = subst O a opens in
+    let kept = subst H a' here in
+    let away : answer_file stem ≢ requests = λ e. files_differ stem (sym (e ∙ r)) in
+    let away' : answer_file stem ≢ requests' = λ e. files_differ stem (sym (e ∙ r')) in
+    let was : (s3.counts (answer_file stem)).sink_faults ≡ (s0.counts (answer_file stem)).sink_faults =
+    ap (λ (c : Counts). c.sink_faults) (last (answer_file stem) away') ∙ (opened.sink_faults ∙ ap (λ (c : Counts). c.sink_faults) (other (answer_file stem) away)) in
+    let now : (s4.counts (answer_file stem)).sink_faults ≡ added (s3.counts (answer_file stem)).sink_faults n =
+    ap (λ (c : Counts). c.sink_faults) kept in
+    let Z : ℕ → Type 0 = λ z. Rose z n in
+    let up : Rose 0 n = subst Z zero rose in
+    record {
+      place = omega (arith, up, w01, w12, w23, w34);
+      here = omega (arith, up, was, now);
+    }
+
+-- the cause of the fault that a session ended in, if it did
+pub fault_cause : (fault : Option Fault) (stem : List ℕ) (old new : Seen) → (fault ≡ Some faults.ReadFault → ReadBroke old new (request_file stem)) → (fault ≡ Some faults.WriteFault → WriteBroke old new (answer_file stem))
+    → FaultCause fault stem old new
+fault_cause None stem old new r w = tt
+fault_cause (Some faults.ReadFault) stem old new r w = r refl
+fault_cause (Some faults.WriteFault) stem old new r w = w refl
+
+-- the same behind the tables
+pub caused : (fault : Option Fault) (stem : List ℕ) (stems : List (List ℕ)) (a b c : Seen) → stems ≡ stem ∷ [] → IsLater a b → FaultCause fault stem b c → OnlyFaultCause fault stems a c
+caused fault stem stems a b c e later cause =
+    let S : List (List ℕ) → Type 0 = λ ss. OnlyFaultCause fault ss a c in
+    subst S (sym e) (go fault cause)
+  where
+    go : (f : Option Fault) → FaultCause f stem b c → FaultCause f stem a c
+    go None h = tt
+    go (Some faults.ReadFault) h = record {
+      place = rose_after a.reads b.reads c.reads later.reads h.place;
+      here = rose_after _ _ _ ((later.counts (request_file stem)).source_faults) h.here;
+    }
+    go (Some faults.WriteFault) h = record {
+      place = rose_after a.writes b.writes c.writes later.writes h.place;
+      here = rose_after _ _ _ ((later.counts (answer_file stem)).sink_faults) h.here;
+    }

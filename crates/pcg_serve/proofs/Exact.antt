@@ -1,0 +1,173 @@
+-- The status that a job's input asks for.
+use Rattle.std.proofs.Common.{◌≡◌, ◌≤◌, ◌<◌, ℕ, ◌++◌, Bool, true, false, List, [], ◌∷◌, length, Option, Some, None, refl, sym, ◌∙◌, ap, subst, arith, inl, inr, append-nil}
+use Rattle.std.specs.Prelude.{◌⊎◌}
+use Rattle.std.specs.FinMap.{get}
+use Rattle.std.proofs.lemmas.Bool.{false≢true}
+use Rattle.std.proofs.lemmas.Option.{same_Some}
+use Rattle.op_model.specs.declared.Dataset.{Dataset}
+use Rattle.op_model.specs.declared.Base.{Base}
+use Rattle.op_model.specs.declared.Entry.{Entry}
+use Rattle.pcg_base.specs.Told.{Files, IsLongerAt}
+use Rattle.pcg_words.specs.declared.job.RehearseJob.{RehearseJob}
+use Rattle.pcg_words.specs.Job.{request_file}
+use Rattle.table_ingest.specs.Bases.{Faulty, Spells}
+use Rattle.table_ingest.specs.declared.errors.Table.{Table}
+use Rattle.table_ingest.specs.declared.errors.Cause.{Cause}
+use Rattle.table_ingest.proofs.BaseLemmas.{base_or_fault, one_base as bases_are_one}
+use Rattle.pcg_serve.specs.declared.stops.FileName.TheVariants as files
+use Rattle.pcg_serve.specs.declared.stops.Stop.{Stop}
+use Rattle.pcg_serve.specs.declared.stops.Stop.TheVariants as stops
+use Rattle.pcg_serve.specs.declared.summary.Fault.{Fault}
+use Rattle.pcg_serve.specs.declared.summary.Fault.TheVariants as faults
+use Rattle.pcg_serve.specs.Statuses.{status_of}
+use Rattle.pcg_serve.specs.Jobs.{HasBase, HasTable, IsLarge, TablesAre, dataset_of, table_limit}
+use Rattle.pcg_serve.specs.Causes.{HasBadTable, HasFault, HasLargeBase, HasLong, HasLongTable, HasSomeBase, IsDue, IsUnbuilt, Seen, StatusSo, StopCause, StopsOnly, TablesStop, has_one_client}
+use Rattle.pcg_serve.specs.Headline.{CamePast, OnlyClientEnds, fault_status}
+
+-- the status is the one that is asked for, or that of a fault or of want of memory
+abbrev Ends : ℕ → ℕ → Type 0
+Ends status s = (status ≡ s) ⊎ (status ≡ 2) ⊎ (status ≡ 4) ⊎ (status ≡ 5)
+
+both : (b : Bool) → b ≡ true → b ≡ false → ⊥
+both b t f = false≢true (sym f ∙ t)
+
+-- a name has one file
+one_file : (m : Files) (name xs ys : List ℕ) → get m name ≡ Some xs → get m name ≡ Some ys → xs ≡ ys
+one_file m name xs ys e f = same_Some xs ys (sym e ∙ f)
+
+-- a table isn't both too long and not
+not_long : (m : Files) (name bytes : List ℕ) → HasTable (Some m) name bytes → IsLongerAt (Some m) name table_limit → ⊥
+not_long m name bytes h long =
+    let same : length long.0 ≡ length bytes = ap length (one_file m name long.0 bytes long.1 h.0) in
+    omega (arith, same, h.1, long.2)
+
+none_long : (m : Files) (job : RehearseJob) (supervoxels edges : List ℕ) → TablesAre m job supervoxels edges → HasLongTable (Some m) job → ⊥
+none_long m job supervoxels edges h (inl long) = not_long m job.supervoxels supervoxels h.0 long
+none_long m job supervoxels edges h (inr long) = not_long m job.edges edges h.1 long.2
+
+-- the tables don't both spell a base and have a fault
+no_fault : (m : Files) (job : RehearseJob) (b : Base) (t : Table) (n : ℕ) (c : Cause) → HasBase (Some m) job b → HasFault (Some m) job t n c → ⊥
+no_fault m job b t n c h bad =
+    let d = dataset_of job in
+    let S : List ℕ → Type 0 = λ x. Faulty d x bad.1 t n c in
+    let E : List ℕ → Type 0 = λ x. Faulty d h.0 x t n c in
+    base_or_fault d h.0 h.1 b t n c h.3 (subst E (one_file m job.edges bad.1 h.1 bad.2.1.0 h.2.1.0) (subst S (one_file m job.supervoxels bad.0 h.0 bad.2.0.0 h.2.0.0) bad.3))
+
+-- nor two bases
+one_base : (m : Files) (job : RehearseJob) (b c : Base) → HasBase (Some m) job b → HasBase (Some m) job c → b ≡ c
+one_base m job b c h k =
+    let d = dataset_of job in
+    let S : List ℕ → Type 0 = λ x. Spells d x k.1 c in
+    let E : List ℕ → Type 0 = λ x. Spells d h.0 x c in
+    bases_are_one d h.0 h.1 b c h.3 (subst E (one_file m job.edges k.1 h.1 k.2.1.0 h.2.1.0) (subst S (one_file m job.supervoxels k.0 h.0 k.2.0.0 h.2.0.0) k.3))
+
+-- the tables of an input that isn't taken yet, where it has one client, spell a base
+some_base : (m : Files) (job : RehearseJob) → has_one_client job ≡ true → IsUnbuilt (Some m) job → HasSomeBase (Some m) job
+some_base m job one (inl many) = absurd (both (has_one_client job) one many)
+some_base m job one (inr (inl large)) = (large.0, large.1)
+some_base m job one (inr (inr long)) = long.0
+
+tables_stopped : (m : Files) (left : List ℕ → List ℕ) (job : RehearseJob) (old new : Seen) (stop : Stop) → has_one_client job ≡ true → TablesStop (Some m) left job old new stop
+    → (s : ℕ) → IsDue (Some m) job s → Ends (status_of stop) s
+tables_stopped m left job old new (stops.ReadFault client file) one t s d = inr (inl refl)
+tables_stopped m left job old new stops.NoMemory one t s d = inr (inr (inr refl))
+tables_stopped m left job old new stops.BadWords one t s d = absurd t
+tables_stopped m left job old new (stops.WriteFault client file) one t s d = absurd t
+tables_stopped m left job old new (stops.TooLong client file) one t s d = go (is_long file t) d
+  where
+    is_long : (f : Rattle.pcg_serve.specs.declared.stops.FileName.FileName) → TablesStop (Some m) left job old new (stops.TooLong client f) → (name : List ℕ) × IsLongerAt (Some m) name table_limit × ((x y : List ℕ) → TablesAre m job x y → HasTable (Some m) name x ⊎ HasTable (Some m) name y)
+    is_long files.Supervoxels x = (job.supervoxels, x.1, λ a b h. inl h.0)
+    is_long files.Edges x = (job.edges, x.1, λ a b h. inr h.1)
+    is_long files.Requests x = absurd x
+    is_long files.Answers x = absurd x
+
+    never : (name : List ℕ) × IsLongerAt (Some m) name table_limit × ((x y : List ℕ) → TablesAre m job x y → HasTable (Some m) name x ⊎ HasTable (Some m) name y) → (x y : List ℕ) → TablesAre m job x y → ⊥
+    never long x y h = either (long.2 x y h)
+      where
+        either : HasTable (Some m) long.0 x ⊎ HasTable (Some m) long.0 y → ⊥
+        either (inl k) = not_long m long.0 x k long.1
+        either (inr k) = not_long m long.0 y k long.1
+
+    go : (name : List ℕ) × IsLongerAt (Some m) name table_limit × ((x y : List ℕ) → TablesAre m job x y → HasTable (Some m) name x ⊎ HasTable (Some m) name y) → IsDue (Some m) job s → Ends 7 s
+    go long (inl (sole, inl (e, bad))) = absurd (never long bad.3.0 bad.3.1 bad.3.2)
+    go long (inl (sole, inr (e, other))) = inl (sym e)
+    go long (inr (e, unbuilt)) =
+        let h = some_base m job one unbuilt in
+        absurd (never long h.1.0 h.1.1 h.1.2)
+tables_stopped m left job old new (stops.BadTable table row cause) one t s (inl (sole, inl (e, bad))) = inl (sym e)
+tables_stopped m left job old new (stops.BadTable table row cause) one t s (inl (sole, inr (e, long))) = absurd (none_long m job t.0 t.1 t.2 long)
+tables_stopped m left job old new (stops.BadTable table row cause) one t s (inr (e, unbuilt)) =
+    let h = some_base m job one unbuilt in
+    absurd (no_fault m job h.0 table row cause h.1 t)
+tables_stopped m left job old new stops.NotBuilt one t s (inl (sole, inl (e, bad))) = absurd (no_fault m job t.0 bad.0 bad.1 bad.2 t.1 bad.3)
+tables_stopped m left job old new stops.NotBuilt one t s (inl (sole, inr (e, long))) = absurd (none_long m job t.1.0 t.1.1 t.1.2 long)
+tables_stopped m left job old new stops.NotBuilt one t s (inr (e, unbuilt)) = inl (sym e)
+
+client_stopped : (m : Files) (m' : Option Files) (left : List ℕ → List ℕ) (job : RehearseJob) (stems : List (List ℕ)) (old new : Seen) (stop : Stop) → HasSomeBase (Some m) job → StopsOnly (Some m) m' left stems old new stop
+    → (s : ℕ) → IsDue (Some m) job s → Ends (status_of stop) s
+client_stopped m m' left job [] old new stop base t s d = absurd t
+client_stopped m m' left job (stem ∷ stems) old new (stops.ReadFault client file) base t s d = inr (inl refl)
+client_stopped m m' left job (stem ∷ stems) old new (stops.WriteFault client file) base t s d = inr (inr (inl refl))
+client_stopped m m' left job (stem ∷ stems) old new stops.NoMemory base t s d = inr (inr (inr refl))
+client_stopped m m' left job (stem ∷ stems) old new stops.BadWords base t s d = absurd t
+client_stopped m m' left job (stem ∷ stems) old new (stops.TooLong client file) base t s d = absurd t
+client_stopped m m' left job (stem ∷ stems) old new (stops.BadTable table row cause) base t s d = absurd t
+client_stopped m m' left job (stem ∷ stems) old new stops.NotBuilt base t s (inl (sole, inl (e, bad))) = absurd (no_fault m job base.0 bad.0 bad.1 bad.2 base.1 bad.3)
+client_stopped m m' left job (stem ∷ stems) old new stops.NotBuilt base t s (inl (sole, inr (e, long))) = absurd (none_long m job base.1.0 base.1.1 base.1.2 long)
+client_stopped m m' left job (stem ∷ stems) old new stops.NotBuilt base t s (inr (e, unbuilt)) = inl (sym e)
+
+stopped : (m : Files) (m' : Option Files) (left : List ℕ → List ℕ) (job : RehearseJob) (old new : Seen) (stop : Stop) → StopCause (Some m) m' left job old new stop → (s : ℕ) → IsDue (Some m) job s → Ends (status_of stop) s
+stopped m m' left job old new stop (inl (many, is, kept)) s (inl (one, due)) = absurd (both (has_one_client job) one many)
+stopped m m' left job old new stop (inl (many, is, kept)) s (inr (e, unbuilt)) = inl (ap status_of is ∙ sym e)
+stopped m m' left job old new stop (inr (inl (one, t, kept))) s d = tables_stopped m left job old new stop one t s d
+stopped m m' left job old new stop (inr (inr (one, base, t))) s d = client_stopped m m' left job job.stems old new stop base t s d
+
+-- the requests of a client whose session ended in no fault weren't too many
+not_many : (d : Dataset) (b : Base) (log : List Entry) (m : Files) (files' : Option Files) (left : List ℕ → List ℕ) (stems : List (List ℕ)) (lines refused : ℕ)
+    → OnlyClientEnds d b log (Some m) files' left stems None lines refused → HasLong (Some m) stems → ⊥
+not_many d b log m files' left [] lines refused h long = absurd h
+not_many d b log m None left (stem ∷ stems) lines refused h long = absurd h
+not_many d b log m (Some after) left (stem ∷ stems) lines refused h long =
+    let whole = h.whole refl in
+    let same : long.0 ≡ h.taken =
+    one_file m (request_file stem) long.0 (h.taken ++ left (request_file stem)) long.1 h.stream ∙ ap (λ z. h.taken ++ z) whole.1 ∙ append-nil h.taken in
+    omega (arith, ap length same, h.size, long.2)
+
+not_due : (m : Files) (files' : Option Files) (left : List ℕ → List ℕ) (job : RehearseJob) (old new : Seen) (printed : List ℕ) (ended : ℕ) (p : CamePast (Some m) files' left job old new printed ended)
+    → p.fault ≡ None → (s : ℕ) → IsDue (Some m) job s → ⊥
+not_due m files' left job old new printed ended p none s (inl (sole, inl (e, bad))) = no_fault m job p.base bad.0 bad.1 bad.2 p.has_base bad.3
+not_due m files' left job old new printed ended p none s (inl (sole, inr (e, long))) = none_long m job p.has_base.0 p.has_base.1 p.has_base.2 long
+not_due m files' left job old new printed ended p none s (inr (e, inl many)) = both (has_one_client job) p.only many
+not_due m files' left job old new printed ended p none s (inr (e, inr (inl large))) =
+    let L : Base → Type 0 = λ b. IsLarge b in
+    p.small (subst L (one_base m job large.0 p.base large.1 p.has_base) large.2)
+not_due m files' left job old new printed ended p none s (inr (e, inr (inr long))) =
+    let F : Option Fault → Type 0 = λ f. OnlyClientEnds (dataset_of job) p.base p.log (Some m) files' left job.stems f p.lines p.refused in
+    not_many (dataset_of job) p.base p.log m files' left job.stems p.lines p.refused (subst F none p.client) long.1
+
+past : (m : Files) (files' : Option Files) (left : List ℕ → List ℕ) (job : RehearseJob) (old new : Seen) (printed : List ℕ) (ended status : ℕ) (p : CamePast (Some m) files' left job old new printed ended)
+    → status ≡ ended → (s : ℕ) → IsDue (Some m) job s → Ends status s
+past m files' left job old new printed ended status p e s d = go p.fault refl
+  where
+    is : (f : Option Fault) → p.fault ≡ f → status ≡ fault_status f
+    is f same = e ∙ p.status ∙ ap fault_status same
+
+    go : (f : Option Fault) → p.fault ≡ f → Ends status s
+    go None same = absurd (not_due m files' left job old new printed ended p same s d)
+    go (Some faults.ReadFault) same = inr (inl (is (Some faults.ReadFault) same))
+    go (Some faults.WriteFault) same = inr (inr (inl (is (Some faults.WriteFault) same)))
+
+-- the same of a call that came past its sessions
+pub due_past : (files files' : Option Files) (left : List ℕ → List ℕ) (job : RehearseJob) (old new : Seen) (printed : List ℕ) (outs outs' ended status : ℕ)
+    → CamePast files files' left job old new printed ended → StatusSo outs outs' ended status → (s : ℕ) → IsDue files job s → Ends status s
+due_past None files' left job old new printed outs outs' ended status p e s d = absurd d
+due_past (Some m) files' left job old new printed outs outs' ended status p (inl e) s d = past m files' left job old new printed ended status p e s d
+due_past (Some m) files' left job old new printed outs outs' ended status p (inr (zero, four, rose)) s d = inr (inr (inl four))
+
+-- and of one that stopped before them
+pub due_stopped : (files files' : Option Files) (left : List ℕ → List ℕ) (job : RehearseJob) (old new : Seen) (stop : Stop) (status : ℕ)
+    → StopCause files files' left job old new stop → status ≡ status_of stop → (s : ℕ) → IsDue files job s → Ends status s
+due_stopped None files' left job old new stop status why e s d = absurd d
+due_stopped (Some m) files' left job old new stop status why e s d =
+    let P : ℕ → Type 0 = λ n. Ends n s in
+    subst P (sym e) (stopped m files' left job old new stop why s d)

@@ -1,0 +1,16 @@
+use Rattle.pcg_serve.proofs.Exact.{due_past, due_stopped}
+use Rattle.pcg_serve.proofs.rehearsal.run_rehearse.Goals as goal
+
+pub returns-in-Ok-clause-due : goal.returns-in-Ok-clause-due
+returns-in-Ok-clause-due g c =
+    due_past (g.P.Place.files c.args.place.now) (g.P.Place.files c.rehearse.new.place) (g.P.Place.left_at c.rehearse.new.place) c.args.job.now
+    (record { reads = g.P.Place.read_faults c.args.place.now; writes = g.P.Place.write_faults c.args.place.now; counts = g.P.Place.counts c.args.place.now })
+    (record { reads = g.P.Place.read_faults c.rehearse.new.place; writes = g.P.Place.write_faults c.rehearse.new.place; counts = g.P.Place.counts c.rehearse.new.place })
+    _ _ _ _ c.finish.result c.in-Ok.ensures.came c.finish.ensures.status
+
+pub returns-in-Err-clause-due : goal.returns-in-Err-clause-due
+returns-in-Err-clause-due g c =
+    due_stopped (g.P.Place.files c.args.place.now) (g.P.Place.files c.rehearse.new.place) (g.P.Place.left_at c.rehearse.new.place) c.args.job.now
+    (record { reads = g.P.Place.read_faults c.args.place.now; writes = g.P.Place.write_faults c.args.place.now; counts = g.P.Place.counts c.args.place.now })
+    (record { reads = g.P.Place.read_faults c.rehearse.new.place; writes = g.P.Place.write_faults c.rehearse.new.place; counts = g.P.Place.counts c.rehearse.new.place })
+    c.in-Err.stop c.stopped.result c.in-Err.ensures.stop c.stopped.ensures.status

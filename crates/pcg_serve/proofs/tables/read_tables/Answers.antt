@@ -1,0 +1,16 @@
+use Rattle.std.proofs.Common.{rules}
+use Rattle.pcg_serve.proofs.TableLemmas.{second_stop, spelled_so}
+use Rattle.pcg_serve.proofs.tables.read_tables.Goals as goal
+
+pub returns-in-Err-clause-stop : goal.returns-in-Err-clause-stop
+returns-in-Err-clause-stop g c =
+    second_stop (g.P.Place.files c.args.place.now) (g.P.Place.files c.read_table.new.place) (g.P.Place.left_at c.read_table.new.place) (g.P.Place.left_at c.read_table-2.new.place) c.args.job.now
+    (record { reads = g.P.Place.read_faults c.args.place.now; writes = g.P.Place.write_faults c.args.place.now; counts = g.P.Place.counts c.args.place.now })
+    (record { reads = g.P.Place.read_faults c.read_table.new.place; writes = g.P.Place.write_faults c.read_table.new.place; counts = g.P.Place.counts c.read_table.new.place })
+    (record { reads = g.P.Place.read_faults c.read_table-2.new.place; writes = g.P.Place.write_faults c.read_table-2.new.place; counts = g.P.Place.counts c.read_table-2.new.place })
+    c.in-Err.stop c.requires c.read_table.ensures.files c.read_table.ensures.later c.in_ok-supervoxels.ensures.whole c.read_table-2.ensures.only_left c.in-Err.ensures.stop
+
+pub returns-clause-base : goal.returns-clause-base
+returns-clause-base g c =
+    spelled_so (g.P.Place.files c.args.place.now) (g.P.Place.files c.read_table.new.place) c.args.job.now c.as_slice.result.now c.as_slice-2.result.now c.make_ingest.result
+    c.read_table.ensures.files (search rules) (search rules) c.make_ingest.ensures.base
