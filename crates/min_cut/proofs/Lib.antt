@@ -5,6 +5,7 @@ pub mod Adjacent
 pub mod Reaching
 pub mod Marking
 pub mod Placing
+pub mod Leading
 pub mod Climbing
 pub mod Queued
 pub mod Flowing

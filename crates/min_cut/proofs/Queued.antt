@@ -5,6 +5,7 @@ use Rattle.std.proofs.lemmas.List.Sums.{sum_by-set}
 use Rattle.std.proofs.lemmas.Bool.{cases_eq, false≢true}
 use Rattle.graph_model.specs.Wires.{Wire}
 use Rattle.graph_model.specs.Residual.{Residual}
+use Rattle.graph_model.specs.Cuts.{Joins}
 use Rattle.min_cut.specs.declared.search.Visit.{Visit}
 use Rattle.min_cut.specs.Tree.{visit_at, visited, at_level, ArcOver, Leads, Took, TookNone, Grew, IsClosed}
 use Rattle.min_cut.specs.Arcs.{HasArc, IsArcs}
@@ -161,6 +162,11 @@ pub closed_none : (old new : List (Option Visit)) (level from to room w : ℕ) �
     (w ≡ from) ⊎ ((w ≡ to) × (0 < room)) → is_some (visit_at new w) ≡ true
 closed_none old new level from to room w t at (inl e) = rw (t.same, e) (some_at old level from at)
 closed_none old new level from to room w t at (inr (e, p)) = rw (t.same, e) (t.why p at)
+
+-- what more can be sent to over a link is what it leads to
+pub leads_over : (ws : List Wire) (fs : List ℤ) (k u w : ℕ) → ArcOver ws fs k u w → Joins ws k u w
+leads_over ws fs k u w (inl (a, b, r)) = inl (a, b)
+leads_over ws fs k u w (inr (b, a, r)) = inr (a, b)
 
 -- a vertex of a level is one
 pub from_below : (visits : List (Option Visit)) (level v : ℕ) → at_level (visit_at visits v) level ≡ true → v < length visits

@@ -8,7 +8,7 @@ ghost use Rattle.graph_model.specs.Flows.{Fitting, amount};
 ghost use Rattle.graph_model.specs.Cuts.{weight, is_affinity};
 ghost use Rattle.std.specs.List.{All};
 ghost use Rattle.min_cut.specs.Tree.{AllFit, EachFits, visit_at, level_of};
-ghost use Rattle.min_cut.specs.Arcs.{IsArcs};
+ghost use Rattle.min_cut.specs.Arcs.{IsArcs, AreEnds};
 ghost use Rattle.min_cut.specs.Queue.{IsShort, marked};
 ghost use Rattle.min_cut.specs.Moves.{Moves};
 ghost use Rattle.min_cut.specs.Flowing.{Flowing, Apart};
@@ -93,12 +93,22 @@ fn next_over(
     })
 }
 
+// whether a vertex is alive and one level up; most links lead to one that isn't
+fn is_up(visits: &[Option<Visit>], alive: &[bool], to: u32, level: u64) -> bool
+    requires alive { length alive.now ≡ length visits.now }
+    requires below { to < length visits.now }
+    requires low { level < 2 ^ 32 }
+{
+    alive[to as usize] && is_at_level(visits, to, level + 1)
+}
+
 // the next link of a vertex of the level that leads on; it looks at no link that was passed before
 fn next_from(
     links: &[Link],
     amounts: &[i64],
     starts: &[usize],
     arcs: &[u32],
+    ends: &[u32],
     visits: &[Option<Visit>],
     alive: &[bool],
     cursors: &mut [usize],
@@ -109,6 +119,7 @@ fn next_from(
     requires fits { EachFits (map wire_of links.now) amounts.now }
     requires ends { EndsBelow (length visits.now) (map wire_of links.now) }
     requires arcs { IsArcs (length visits.now) (map wire_of links.now) starts.now arcs.now }
+    requires leads { AreEnds (length visits.now) (map wire_of links.now) starts.now arcs.now ends.now }
     requires alive { length alive.now ≡ length visits.now }
     requires cursors { length cursors.old ≡ length visits.now }
     requires below { at < length visits.now }
@@ -118,10 +129,12 @@ fn next_from(
 {
     let end = starts[at as usize + 1];
     for i in cursors[at as usize]..end {
-        let next = next_over(links, amounts, visits, alive, arcs[i], at, level);
-        if next.is_some() {
-            cursors[at as usize] = i;
-            return next;
+        if is_up(visits, alive, ends[i], level) {
+            let next = next_over(links, amounts, visits, alive, arcs[i], at, level);
+            if next.is_some() {
+                cursors[at as usize] = i;
+                return next;
+            }
         }
     }
     cursors[at as usize] = end;
@@ -135,6 +148,7 @@ fn find_walk(
     amounts: &[i64],
     starts: &[usize],
     arcs: &[u32],
+    ends: &[u32],
     visits: &[Option<Visit>],
     is_sink: &[bool],
     alive: &mut [bool],
@@ -146,6 +160,7 @@ fn find_walk(
     requires fits { EachFits (map wire_of links.now) amounts.now }
     requires ends { EndsBelow (length visits.now) (map wire_of links.now) }
     requires arcs { IsArcs (length visits.now) (map wire_of links.now) starts.now arcs.now }
+    requires leads { AreEnds (length visits.now) (map wire_of links.now) starts.now arcs.now ends.now }
     requires size { length visits.now < 2 ^ 32 }
     requires short { IsShort visits.now }
     requires marks { length is_sink.now ≡ length visits.now }
@@ -171,6 +186,7 @@ fn find_walk(
             amounts,
             starts,
             arcs,
+            ends,
             visits,
             alive,
             cursors,
@@ -243,6 +259,7 @@ fn block_from(
     amounts: &mut [i64],
     starts: &[usize],
     arcs: &[u32],
+    ends: &[u32],
     visits: &[Option<Visit>],
     is_sink: &[bool],
     alive: &mut [bool],
@@ -255,6 +272,7 @@ fn block_from(
     requires amounts { length amounts.old ≡ length links.now }
     requires ends { EndsBelow (length visits.now) (map wire_of links.now) }
     requires arcs { IsArcs (length visits.now) (map wire_of links.now) starts.now arcs.now }
+    requires leads { AreEnds (length visits.now) (map wire_of links.now) starts.now arcs.now ends.now }
     requires size { length visits.now < 2 ^ 32 }
     requires short { IsShort visits.now }
     requires marks { length is_sink.now ≡ length visits.now }
@@ -272,7 +290,7 @@ fn block_from(
     let source = sources[j];
     let mut sent = before;
     while let Some(found) = find_walk(
-        links, amounts, starts, arcs, visits, is_sink, alive, cursors, steps, source,
+        links, amounts, starts, arcs, ends, visits, is_sink, alive, cursors, steps, source,
     ) {
         let width = narrowest(steps, found.depth);
         send(links, amounts, steps, found, width, sent);
@@ -281,23 +299,61 @@ fn block_from(
     sent
 }
 
+// whether a walk to the nearest sinks, which are at the level `depth`, may go over a vertex
+fn is_near(visits: &[Option<Visit>], is_sink: &[bool], v: usize, depth: u64) -> bool
+    requires at { v < length visits.now }
+    requires marks { length is_sink.now ≡ length visits.now }
+{
+    if is_sink[v] {
+        return true;
+    }
+    match visits[v] {
+        Some(visit) => visit.level < depth,
+        None => false,
+    }
+}
+
+// makes alive what walks may go over, and passes no link yet
+fn begin_walks(
+    starts: &[usize],
+    visits: &[Option<Visit>],
+    is_sink: &[bool],
+    alive: &mut [bool],
+    cursors: &mut [usize],
+    depth: u64,
+)
+    requires starts { length starts.now ≡ length visits.now + 1 }
+    requires marks { length is_sink.now ≡ length visits.now }
+    requires alive { length alive.old ≡ length visits.now }
+    requires cursors { length cursors.old ≡ length visits.now }
+{
+    for v in 0..alive.len() {
+        alive[v] = is_near(visits, is_sink, v, depth);
+        cursors[v] = starts[v];
+    }
+}
+
 /// Sends more along walks that go up one level with each link, from each source until none is found; what is sent then.
+/// The nearest sinks are at the level `depth`.
 pub(crate) fn block(
     links: &[Link],
     amounts: &mut [i64],
     starts: &[usize],
     arcs: &[u32],
+    ends: &[u32],
     visits: &[Option<Visit>],
     is_sink: &[bool],
     alive: &mut [bool],
     cursors: &mut [usize],
     steps: &mut [Step],
     sources: &[u32],
+    depth: u64,
     before: u64,
 ) -> u64
     requires amounts { length amounts.old ≡ length links.now }
     requires ends { EndsBelow (length visits.now) (map wire_of links.now) }
     requires arcs { IsArcs (length visits.now) (map wire_of links.now) starts.now arcs.now }
+    requires leads { AreEnds (length visits.now) (map wire_of links.now) starts.now arcs.now ends.now }
     requires size { length visits.now < 2 ^ 32 }
     requires short { IsShort visits.now }
     requires marks { length is_sink.now ≡ length visits.now }
@@ -311,14 +367,12 @@ pub(crate) fn block(
     ensures flowing { Flowing (length visits.now) (map wire_of links.now) sources.now (marked is_sink.now) amounts.new result }
     ensures more { before ≤ result }
 {
-    for v in 0..alive.len() {
-        alive[v] = true;
-        cursors[v] = starts[v];
-    }
+    begin_walks(starts, visits, is_sink, alive, cursors, depth);
     let mut sent = before;
     for j in 0..sources.len() {
         sent = block_from(
-            links, amounts, starts, arcs, visits, is_sink, alive, cursors, steps, sources, j, sent,
+            links, amounts, starts, arcs, ends, visits, is_sink, alive, cursors, steps, sources, j,
+            sent,
         );
     }
     sent

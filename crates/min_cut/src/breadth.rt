@@ -1,13 +1,14 @@
 //! The search in breadth for what more can be sent to: each visited vertex's links are looked at once.
 
-ghost use Rattle.std.specs.Prelude.{◌≡◌, ℕ, ◌<◌, ◌≤◌, ◌+◌, ◌⊎◌, ◌^◌, length, true, false, map, None, Some, is_some, IfSome, IfNone, slice_set, slice_index_or};
+ghost use Rattle.std.specs.Prelude.{◌≡◌, ℕ, ◌<◌, ◌≤◌, ◌+◌, ◌⊎◌, ◌^◌, length, true, false, map, None, Some, is_some, IfSome, IfNone, IfOk, IfErr, slice_set, slice_index_or};
 ghost use Rattle.std.specs.List.{All};
 ghost use Rattle.flow_net.specs.Net.{wire_of};
 ghost use Rattle.graph_model.specs.Wires.{wire, EndsBelow};
 ghost use Rattle.graph_model.specs.Lists.{has};
 ghost use Rattle.graph_model.specs.Flows.{Fitting, amount};
 ghost use Rattle.min_cut.specs.Tree.{Leads, ArcOver, EachFits, IsTree, IsClosed, at_level, visit_at};
-ghost use Rattle.min_cut.specs.Arcs.{IsArcs, HasArc};
+ghost use Rattle.graph_model.specs.Cuts.{Joins};
+ghost use Rattle.min_cut.specs.Arcs.{IsArcs, HasArc, AreEnds};
 ghost use Rattle.min_cut.specs.Queue.{IsQueue, Queues, IsShort, marked};
 ghost use Rattle.min_cut.specs.declared.search.Visit.{Visit};
 
@@ -47,7 +48,8 @@ pub(crate) fn arc_from(links: &[Link], amounts: &[i64], k: u32, from: u32) -> Ar
     Arc { to: from, room: 0 }
 }
 
-// visits and queues what link k leads to from a vertex of the level; the end of the queue
+// visits and queues what link k leads to from a vertex of the level; the end of the queue. The link is looked at only if
+// that isn't visited yet
 fn visit_over(
     links: &[Link],
     amounts: &[i64],
@@ -55,6 +57,7 @@ fn visit_over(
     queue: &mut [u32],
     k: u32,
     from: u32,
+    to: u32,
     level: u64,
     tail: usize,
 ) -> usize
@@ -67,9 +70,14 @@ fn visit_over(
     requires queue { IsQueue visits.old queue.old tail }
     requires from { at_level (visit_at visits.old from) level ≡ true }
     requires level { level < tail }
+    requires to { to < length visits.old }
+    requires leads { (w : ℕ) → Joins (map wire_of links.now) k from w → w ≡ to }
     ensures queues { Queues (map wire_of links.now) amounts.now visits.old visits.new queue.old queue.new tail result level }
     ensures closed { (w : ℕ) → ArcOver (map wire_of links.now) amounts.now k from w → is_some (visit_at visits.new w) ≡ true }
 {
+    if visits[to as usize].is_some() {
+        return tail;
+    }
     let arc = arc_from(links, amounts, k, from);
     if try_visit(visits, level, k, from, arc.to, arc.room) {
         queue[tail] = arc.to;
@@ -84,6 +92,7 @@ fn expand_from(
     amounts: &[i64],
     starts: &[usize],
     arcs: &[u32],
+    ends: &[u32],
     visits: &mut [Option<Visit>],
     queue: &mut [u32],
     from: u32,
@@ -94,6 +103,7 @@ fn expand_from(
     requires fits { EachFits (map wire_of links.now) amounts.now }
     requires ends { EndsBelow (length visits.old) (map wire_of links.now) }
     requires arcs { IsArcs (length visits.old) (map wire_of links.now) starts.now arcs.now }
+    requires leads { AreEnds (length visits.old) (map wire_of links.now) starts.now arcs.now ends.now }
     requires size { length visits.old < 2 ^ 32 }
     requires room { length queue.old ≡ length visits.old }
     requires queue { IsQueue visits.old queue.old before }
@@ -104,7 +114,9 @@ fn expand_from(
 {
     let mut tail = before;
     for i in starts[from as usize]..starts[from as usize + 1] {
-        tail = visit_over(links, amounts, visits, queue, arcs[i], from, level, tail);
+        tail = visit_over(
+            links, amounts, visits, queue, arcs[i], from, ends[i], level, tail,
+        );
     }
     tail
 }
@@ -156,7 +168,7 @@ pub(crate) fn begin(sources: &[u32], visits: &mut [Option<Visit>], queue: &mut [
 }
 
 // the level of a visited vertex
-fn level_at(visits: &[Option<Visit>], v: u32) -> u64
+pub(crate) fn level_at(visits: &[Option<Visit>], v: u32) -> u64
     requires at { v < length visits.now }
     requires visited { is_some (visit_at visits.now v) ≡ true }
     ensures at { at_level (visit_at visits.now v) result ≡ true }
@@ -167,6 +179,35 @@ fn level_at(visits: &[Option<Visit>], v: u32) -> u64
     }
 }
 
+// the end of the places of the queue that are known to hold no sink. As the search comes to it, all vertices of a level
+// are visited and none is expanded: then the first sink of them, if there is one, and else the end of the level
+fn past_sinks(
+    queue: &[u32],
+    is_sink: &[bool],
+    head: usize,
+    plain: usize,
+    tail: usize,
+) -> Result<usize, u32>
+    requires order { (head ≤ plain) × (plain ≤ tail) × (head < tail) }
+    requires room { tail ≤ length queue.now }
+    requires below { (i : ℕ) → i < tail → slice_index_or queue.now i 0 < length is_sink.now }
+    requires plain { (i : ℕ) → i < plain → marked is_sink.now (slice_index_or queue.now i 0) ≡ false }
+    ensures order { IfOk result (λ end. (head < end) × (end ≤ tail)) }
+    ensures plain { IfOk result (λ end. (i : ℕ) → i < end → marked is_sink.now (slice_index_or queue.now i 0) ≡ false) }
+    ensures sink { IfErr result (λ t. (marked is_sink.now t ≡ true) × (i : ℕ) × (i < tail) × (slice_index_or queue.now i 0 ≡ t)) }
+{
+    if head < plain {
+        return Ok(plain);
+    }
+    for i in head..tail {
+        let from = queue[i];
+        if is_sink[from as usize] {
+            return Err(from);
+        }
+    }
+    Ok(tail)
+}
+
 /// Visits what more can be sent to from the sources, nearest first, until it comes to a sink. That sink, or none if all
 /// is visited and none is a sink.
 pub(crate) fn explore(
@@ -174,6 +215,7 @@ pub(crate) fn explore(
     amounts: &[i64],
     starts: &[usize],
     arcs: &[u32],
+    ends: &[u32],
     sources: &[u32],
     is_sink: &[bool],
     visits: &mut [Option<Visit>],
@@ -183,6 +225,7 @@ pub(crate) fn explore(
     requires fits { EachFits (map wire_of links.now) amounts.now }
     requires ends { EndsBelow (length visits.old) (map wire_of links.now) }
     requires arcs { IsArcs (length visits.old) (map wire_of links.now) starts.now arcs.now }
+    requires leads { AreEnds (length visits.old) (map wire_of links.now) starts.now arcs.now ends.now }
     requires size { length visits.old < 2 ^ 32 }
     requires room { length queue.old ≡ length visits.old }
     requires marks { length is_sink.now ≡ length visits.old }
@@ -195,14 +238,16 @@ pub(crate) fn explore(
 {
     let mut tail = begin(sources, visits, queue);
     let mut head: usize = 0;
+    let mut plain: usize = 0;
     while head < tail {
-        let from = queue[head];
-        if is_sink[from as usize] {
-            return Some(from);
+        match past_sinks(queue, is_sink, head, plain, tail) {
+            Ok(end) => plain = end,
+            Err(sink) => return Some(sink),
         }
+        let from = queue[head];
         let level = level_at(visits, from);
         tail = expand_from(
-            links, amounts, starts, arcs, visits, queue, from, level, tail,
+            links, amounts, starts, arcs, ends, visits, queue, from, level, tail,
         );
         head += 1;
     }

@@ -110,6 +110,7 @@ pub fn least_cut(
         links,
         arcs.starts.as_slice(),
         arcs.links.as_slice(),
+        arcs.ends.as_slice(),
         sources,
         sinks,
         amounts.as_mut_slice(),

@@ -10,11 +10,11 @@ ghost use Rattle.graph_model.specs.Residual.{IsLast};
 ghost use Rattle.graph_model.specs.Cuts.{Separates, is_affinity};
 ghost use Rattle.graph_model.specs.Wires.{EndsBelow};
 ghost use Rattle.min_cut.specs.Tree.{visit_at};
-ghost use Rattle.min_cut.specs.Arcs.{IsArcs};
+ghost use Rattle.min_cut.specs.Arcs.{IsArcs, AreEnds};
 ghost use Rattle.min_cut.specs.Queue.{marked};
 
 use crate::blocking::{Step, block};
-use crate::breadth::explore;
+use crate::breadth::{explore, level_at};
 use crate::rooms::total_room;
 use crate::search::{Visit, width_of};
 use crate::walk::augment;
@@ -37,6 +37,7 @@ fn run_phases(
     links: &[Link],
     starts: &[usize],
     arcs: &[u32],
+    ends: &[u32],
     sources: &[u32],
     sinks: &[u32],
     is_sink: &[bool],
@@ -52,6 +53,7 @@ fn run_phases(
     requires amounts { length amounts.old ≡ length links.now }
     requires ends { EndsBelow (length visits.old) (map wire_of links.now) }
     requires arcs { IsArcs (length visits.old) (map wire_of links.now) starts.now arcs.now }
+    requires leads { AreEnds (length visits.old) (map wire_of links.now) starts.now arcs.now ends.now }
     requires room { length queue.old ≡ length visits.old }
     requires marks { length is_sink.now ≡ length visits.old }
     requires alive { length alive.old ≡ length visits.old }
@@ -71,22 +73,25 @@ fn run_phases(
     let mut going = true;
     while going {
         match explore(
-            links, amounts, starts, arcs, sources, is_sink, visits, queue,
+            links, amounts, starts, arcs, ends, sources, is_sink, visits, queue,
         ) {
             Some(sink) => {
                 let width = width_of(visits, sink);
+                let depth = level_at(visits, sink);
                 let _source = augment(links, amounts, visits, sink, width, sent);
                 sent = block(
                     links,
                     amounts,
                     starts,
                     arcs,
+                    ends,
                     visits,
                     is_sink,
                     alive,
                     cursors,
                     steps,
                     sources,
+                    depth,
                     sent + width,
                 );
             }
@@ -103,6 +108,7 @@ pub(crate) fn greatest_flow(
     links: &[Link],
     starts: &[usize],
     arcs: &[u32],
+    ends: &[u32],
     sources: &[u32],
     sinks: &[u32],
     amounts: &mut [i64],
@@ -114,6 +120,7 @@ pub(crate) fn greatest_flow(
     requires amounts { length amounts.old ≡ length links.now }
     requires ends { EndsBelow (length visits.old) (map wire_of links.now) }
     requires arcs { IsArcs (length visits.old) (map wire_of links.now) starts.now arcs.now }
+    requires leads { AreEnds (length visits.old) (map wire_of links.now) starts.now arcs.now ends.now }
     requires room { length queue.old ≡ length visits.old }
     requires sources { All (λ s. s < length visits.old) sources.now }
     requires sinks { All (λ t. t < length visits.old) sinks.now }
@@ -139,6 +146,7 @@ pub(crate) fn greatest_flow(
         links,
         starts,
         arcs,
+        ends,
         sources,
         sinks,
         is_sink.as_slice(),

@@ -47,6 +47,15 @@ fn worked_cuts(rt: HostRuntime) -> Result<(), Fail> {
         ),
         (
             4,
+            [link(0, 1, 10), link(1, 2, 7), link(2, 3, 5)].as_slice(),
+            0,
+            3,
+            [2].as_slice(),
+            5,
+            [5, 5, 5].as_slice(),
+        ),
+        (
+            4,
             [
                 link(0, 1, 3),
                 link(0, 2, 2),

@@ -23,6 +23,17 @@ visit_over-tail-requires-clause-ends c = rw c.loop-i.invariant.len c.requires.en
 pub visit_over-tail-requires-clause-from : goal.visit_over-tail-requires-clause-from
 visit_over-tail-requires-clause-from c = at_kept c.args.visits.now c.loop-i.visits c.args.level c.args.from c.loop-i.invariant.queues.grew.kept c.requires.from
 
+pub visit_over-tail-requires-clause-to : goal.visit_over-tail-requires-clause-to
+visit_over-tail-requires-clause-to c =
+    let b = from_below c.args.visits.now c.args.level c.args.from c.requires.from in
+    let s = c.requires.leads.small c.loop-i.i (omega arith) in
+    let e = c.loop-i.invariant.len in
+    omega arith
+
+pub visit_over-tail-requires-clause-leads : goal.visit_over-tail-requires-clause-leads
+visit_over-tail-requires-clause-leads c w j =
+    c.requires.leads.leads c.args.from c.loop-i.i w (from_below c.args.visits.now c.args.level c.args.from c.requires.from) c.loop-i.auto.i c.loop-i-test.true j
+
 pub loop-i-preserved : goal.loop-i-preserved
 loop-i-preserved c =
     let i = c.loop-i.invariant in

@@ -1,8 +1,17 @@
-use Rattle.std.proofs.Common.{◌<◌, map, length}
+use Rattle.std.proofs.Common.{◌≡◌, ◌<◌, true, map, length, is_some, sym, ◌∙◌, subst}
 use Rattle.flow_net.specs.Net.{wire_of}
+use Rattle.min_cut.specs.Tree.{visit_at}
 use Rattle.min_cut.proofs.Levels.{took_grew}
-use Rattle.min_cut.proofs.Queued.{from_below, queue_room, queues_took, queues_none, closed_took, closed_none}
+use Rattle.min_cut.proofs.Queued.{from_below, queue_room, queues_took, queues_none, closed_took, closed_none, leads_over}
 use Rattle.min_cut.proofs.breadth.visit_over.Goals as goal
+
+pub returns-then-is_some-clause-queues : goal.returns-then-is_some-clause-queues
+returns-then-is_some-clause-queues c = queues_none (map wire_of c.args.links.now) c.args.amounts.now c.args.visits.now c.args.queue.now c.args.tail c.args.level c.requires.queue
+
+pub returns-then-is_some-clause-closed : goal.returns-then-is_some-clause-closed
+returns-then-is_some-clause-closed c w a =
+    let e = c.requires.leads w (leads_over (map wire_of c.args.links.now) c.args.amounts.now c.args.k c.args.from w a) in
+    subst (λ v. is_some (visit_at c.args.visits.now v) ≡ true) (sym e) (sym c.is_some.ensures ∙ c.if-is_some.true)
 
 to_below : (c : goal.Then-try_visit) → c.arc_from-arc.result.to < length c.args.visits.now
 to_below c = c.arc_from-arc.ensures.below _ c.requires.ends (from_below c.args.visits.now c.args.level c.args.from c.requires.from)

@@ -10,14 +10,14 @@ use Rattle.min_cut.proofs.cut.least_cut.Goals as goal
 pub greatest_flow-requires-clause-separable : goal.greatest_flow-requires-clause-separable
 greatest_flow-requires-clause-separable c = separable (map wire_of c.links-links.result.now) c.args.sources.now c.args.sinks.now (sym c.glue_fault.ensures ∙ c.in_default-glue_fault.is)
 
-whole : (c : goal.After-drop-arcs-3) → IsAnswer c.args.net.now c.args.sources.now c.args.sinks.now c.in-Ok-edge_links.chosen.items c.in-Ok-greatest_flow.total c.greatest_flow.new.amounts
+whole : (c : goal.After-drop-arcs-4) → IsAnswer c.args.net.now c.args.sources.now c.args.sinks.now c.in-Ok-edge_links.chosen.items c.in-Ok-greatest_flow.total c.greatest_flow.new.amounts
 whole c =
     let size : length c.greatest_flow.new.visits ≡ c.args.net.now.size =
     omega (arith, c.greatest_flow.auto.visits, c.as_mut_slice-4.ensures.len, c.in-Ok-vec-2.ensures.len, c.size-size.ensures.size) in
     answer_of c.args.net.now c.args.sources.now c.args.sinks.now c.links-links.result.now _ _ c.greatest_flow.new.amounts (λ v. is_some (visit_at c.greatest_flow.new.visits v)) c.in-Ok-edge_links.chosen.items
     c.links-links.ensures.links size c.links-links.ensures.sound c.in-Ok-greatest_flow.ensures.flow c.in-Ok-greatest_flow.ensures.last c.in-Ok-greatest_flow.ensures.value
     (c.in-Ok-edge_links.ensures ∙ ap (λ (vs : List (Option Visit)). chosen (crosses (map wire_of c.links-links.result.now) (λ v. is_some (visit_at vs v))) (length c.links-links.result.now))
-    (c.as_slice-3.ensures.value ∙ front c.greatest_flow.new.visits _ c.in-Ok-vec-2.visits.len (omega (arith, c.greatest_flow.auto.visits, c.as_mut_slice-4.ensures.len))))
+    (c.as_slice-4.ensures.value ∙ front c.greatest_flow.new.visits _ c.in-Ok-vec-2.visits.len (omega (arith, c.greatest_flow.auto.visits, c.as_mut_slice-4.ensures.len))))
 
 pub returns-clause-cut : goal.returns-clause-cut
 returns-clause-cut c = (whole c).cut_is
