@@ -1,5 +1,5 @@
 -- The status that a job's input asks for.
-use Rattle.std.proofs.Common.{◌≡◌, ◌≤◌, ◌<◌, ℕ, ◌++◌, Bool, true, false, List, [], ◌∷◌, length, Option, Some, None, refl, sym, ◌∙◌, ap, subst, arith, inl, inr, append-nil}
+use Rattle.std.proofs.Common.{◌≡◌, ℕ, ◌++◌, Bool, true, false, List, [], ◌∷◌, length, Option, Some, None, refl, sym, ◌∙◌, ap, subst, arith, inl, inr, append-nil}
 use Rattle.std.specs.Prelude.{◌⊎◌}
 use Rattle.std.specs.FinMap.{get}
 use Rattle.std.proofs.lemmas.Bool.{false≢true}
@@ -7,8 +7,11 @@ use Rattle.std.proofs.lemmas.Option.{same_Some}
 use Rattle.op_model.specs.declared.Dataset.{Dataset}
 use Rattle.op_model.specs.declared.Base.{Base}
 use Rattle.op_model.specs.declared.Entry.{Entry}
+use Rattle.pcg_base.specs.Causes.{Rose}
 use Rattle.pcg_base.specs.Told.{Files, IsLongerAt}
 use Rattle.pcg_words.specs.declared.job.RehearseJob.{RehearseJob}
+use Rattle.pcg_words.specs.declared.job.Job.{Job}
+use Rattle.pcg_words.specs.declared.job.Job.TheVariants as jobs
 use Rattle.pcg_words.specs.Job.{request_file}
 use Rattle.table_ingest.specs.Bases.{Faulty, Spells}
 use Rattle.table_ingest.specs.declared.errors.Table.{Table}
@@ -21,8 +24,8 @@ use Rattle.pcg_serve.specs.declared.summary.Fault.{Fault}
 use Rattle.pcg_serve.specs.declared.summary.Fault.TheVariants as faults
 use Rattle.pcg_serve.specs.Statuses.{status_of}
 use Rattle.pcg_serve.specs.Jobs.{HasBase, HasTable, IsLarge, TablesAre, dataset_of, table_limit}
-use Rattle.pcg_serve.specs.Causes.{HasBadTable, HasFault, HasLargeBase, HasLong, HasLongTable, HasSomeBase, IsDue, IsUnbuilt, Seen, StatusSo, StopCause, StopsOnly, TablesStop, has_one_client}
-use Rattle.pcg_serve.specs.Headline.{CamePast, OnlyClientEnds, fault_status}
+use Rattle.pcg_serve.specs.Causes.{HasFault, HasLong, HasLongTable, HasSomeBase, IsDue, IsUnbuilt, Seen, StatusSo, StopCause, StopsOnly, TablesStop, has_one_client}
+use Rattle.pcg_serve.specs.Headline.{CamePast, IsQuiet, JobOutcome, OnlyClientEnds, Outcome, fault_status}
 
 -- the status is the one that is asked for, or that of a fault or of want of memory
 abbrev Ends : ℕ → ℕ → Type 0
@@ -95,12 +98,12 @@ tables_stopped m left job old new (stops.TooLong client file) one t s d = go (is
         let h = some_base m job one unbuilt in
         absurd (never long h.1.0 h.1.1 h.1.2)
 tables_stopped m left job old new (stops.BadTable table row cause) one t s (inl (sole, inl (e, bad))) = inl (sym e)
-tables_stopped m left job old new (stops.BadTable table row cause) one t s (inl (sole, inr (e, long))) = absurd (none_long m job t.0 t.1 t.2 long)
+tables_stopped m left job old new (stops.BadTable table row cause) one t s (inl (sole, inr (e, long))) = absurd (none_long m job t.0.0 t.0.1 t.0.2 long)
 tables_stopped m left job old new (stops.BadTable table row cause) one t s (inr (e, unbuilt)) =
     let h = some_base m job one unbuilt in
-    absurd (no_fault m job h.0 table row cause h.1 t)
-tables_stopped m left job old new stops.NotBuilt one t s (inl (sole, inl (e, bad))) = absurd (no_fault m job t.0 bad.0 bad.1 bad.2 t.1 bad.3)
-tables_stopped m left job old new stops.NotBuilt one t s (inl (sole, inr (e, long))) = absurd (none_long m job t.1.0 t.1.1 t.1.2 long)
+    absurd (no_fault m job h.0 table row cause h.1 t.0)
+tables_stopped m left job old new stops.NotBuilt one t s (inl (sole, inl (e, bad))) = absurd (no_fault m job t.0.0 bad.0 bad.1 bad.2 t.0.1 bad.3)
+tables_stopped m left job old new stops.NotBuilt one t s (inl (sole, inr (e, long))) = absurd (none_long m job t.0.1.0 t.0.1.1 t.0.1.2 long)
 tables_stopped m left job old new stops.NotBuilt one t s (inr (e, unbuilt)) = inl (sym e)
 
 client_stopped : (m : Files) (m' : Option Files) (left : List ℕ → List ℕ) (job : RehearseJob) (stems : List (List ℕ)) (old new : Seen) (stop : Stop) → HasSomeBase (Some m) job → StopsOnly (Some m) m' left stems old new stop
@@ -120,7 +123,7 @@ stopped : (m : Files) (m' : Option Files) (left : List ℕ → List ℕ) (job : 
 stopped m m' left job old new stop (inl (many, is, kept)) s (inl (one, due)) = absurd (both (has_one_client job) one many)
 stopped m m' left job old new stop (inl (many, is, kept)) s (inr (e, unbuilt)) = inl (ap status_of is ∙ sym e)
 stopped m m' left job old new stop (inr (inl (one, t, kept))) s d = tables_stopped m left job old new stop one t s d
-stopped m m' left job old new stop (inr (inr (one, base, t))) s d = client_stopped m m' left job job.stems old new stop base t s d
+stopped m m' left job old new stop (inr (inr (one, base, read, t))) s d = client_stopped m m' left job job.stems old new stop base t s d
 
 -- the requests of a client whose session ended in no fault weren't too many
 not_many : (d : Dataset) (b : Base) (log : List Entry) (m : Files) (files' : Option Files) (left : List ℕ → List ℕ) (stems : List (List ℕ)) (lines refused : ℕ)
@@ -171,3 +174,26 @@ due_stopped None files' left job old new stop status why e s d = absurd d
 due_stopped (Some m) files' left job old new stop status why e s d =
     let P : ℕ → Type 0 = λ n. Ends n s in
     subst P (sym e) (stopped m files' left job old new stop why s d)
+
+-- the outcome of a rehearsal is that of its job
+pub job_outcome : (files files' : Option Files) (left : List ℕ → List ℕ) (j : Job) (found : RehearseJob) (old new : Seen) (held held' : Option (List ℕ)) (outs outs' status : ℕ)
+    → j ≡ jobs.Rehearse found → Outcome files files' left found old new held held' outs outs' status → JobOutcome files files' left (Some j) old new held held' outs outs' status
+job_outcome files files' left j found old new held held' outs outs' status e o =
+    let P : Job → Type 0 = λ x. JobOutcome files files' left (Some x) old new held held' outs outs' status in
+    subst P (sym e) (inl o)
+
+-- where no count rose, a status that has its cause is that of a call that is done, or of want of memory
+pub complete_so : (Bad Long Unbuilt : Type 0) (status reads reads' writes writes' outs outs' : ℕ) → (status ≡ 0) ⊎ (status ≡ 2) ⊎ (status ≡ 4) ⊎ (status ≡ 3) ⊎ (status ≡ 5) ⊎ (status ≡ 7) ⊎ (status ≡ 8)
+    → (status ≡ 2 → Rose reads reads') → (status ≡ 4 → Rose writes writes' ⊎ Rose outs outs') → (status ≡ 3 → Bad) → (status ≡ 7 → Long) → (status ≡ 8 → Unbuilt)
+    → IsQuiet reads reads' writes writes' outs outs' → ¬ Unbuilt → ¬ Long → ¬ Bad → (status ≡ 0) ⊎ (status ≡ 5)
+complete_so Bad Long Unbuilt status reads reads' writes writes' outs outs' (inl e) r w b l u quiet no_unbuilt no_long no_bad = inl e
+complete_so Bad Long Unbuilt status reads reads' writes writes' outs outs' (inr (inl e)) r w b l u quiet no_unbuilt no_long no_bad = absurd (quiet.0 (r e))
+complete_so Bad Long Unbuilt status reads reads' writes writes' outs outs' (inr (inr (inl e))) r w b l u quiet no_unbuilt no_long no_bad = absurd (never (w e))
+  where
+    never : Rose writes writes' ⊎ Rose outs outs' → ⊥
+    never (inl h) = quiet.1 h
+    never (inr h) = quiet.2 h
+complete_so Bad Long Unbuilt status reads reads' writes writes' outs outs' (inr (inr (inr (inl e)))) r w b l u quiet no_unbuilt no_long no_bad = absurd (no_bad (b e))
+complete_so Bad Long Unbuilt status reads reads' writes writes' outs outs' (inr (inr (inr (inr (inl e))))) r w b l u quiet no_unbuilt no_long no_bad = inr e
+complete_so Bad Long Unbuilt status reads reads' writes writes' outs outs' (inr (inr (inr (inr (inr (inl e)))))) r w b l u quiet no_unbuilt no_long no_bad = absurd (no_long (l e))
+complete_so Bad Long Unbuilt status reads reads' writes writes' outs outs' (inr (inr (inr (inr (inr (inr e)))))) r w b l u quiet no_unbuilt no_long no_bad = absurd (no_unbuilt (u e))

@@ -1,5 +1,5 @@
 -- One history behind what was printed and answered.
-use Rattle.std.proofs.Common.{◌≡◌, ◌≤◌, ℕ, ◌+◌, ◌-◌, true, List, [], ◌∷◌, ◌++◌, length, cond, Option, Some, None, refl, sym, ◌∙◌, ap, subst, arith, inl, inr, add-zero, count_by}
+use Rattle.std.proofs.Common.{◌≡◌, ◌≤◌, ℕ, ◌+◌, ◌-◌, true, List, [], ◌∷◌, ◌++◌, length, cond, Option, Some, None, sym, ◌∙◌, ap, subst, arith, inl, inr, add-zero, count_by}
 use Rattle.std.specs.Prelude.{◌↔◌, IsTrue}
 use Rattle.std.proofs.lemmas.Bool.{le-leb}
 use Rattle.std.specs.Io.KnownBytes.{Appends}
@@ -24,7 +24,7 @@ use Rattle.pcg_base.specs.Told.{Files, KeepsFiles}
 use Rattle.pcg_words.specs.declared.job.RehearseJob.{RehearseJob}
 use Rattle.pcg_words.specs.Job.{request_file}
 use Rattle.pcg_serve.specs.declared.summary.Fault.{Fault}
-use Rattle.pcg_serve.specs.Causes.{Seen, IsLater, has_one_client}
+use Rattle.pcg_serve.specs.Causes.{Seen, IsLater, TablesRead, has_one_client}
 use Rattle.pcg_serve.specs.declared.ingest.Ingest.{Ingest}
 use Rattle.pcg_serve.specs.declared.session.Session.{Session}
 use Rattle.pcg_serve.specs.declared.summary.Summary.{Summary}
@@ -146,18 +146,19 @@ not_large : (b : Base) → (length b.supervoxels ≤ 255) × (length b.edges ≤
 not_large b h (inl more) = omega (arith, h.0, more)
 not_large b h (inr more) = omega (arith, h.1, more)
 
-pub came_past : (files f1 f2 : Option Files) (left : List ℕ → List ℕ) (stem : List ℕ) (job : RehearseJob) (i : Ingest) (fault : Option Fault) (summary : Summary) (a b c : Seen) → IsIngest i → i.dataset ≡ dataset_of job → HasBase files job i.base
+pub came_past : (files f1 f2 : Option Files) (left : List ℕ → List ℕ) (stem : List ℕ) (job : RehearseJob) (i : Ingest) (fault : Option Fault) (summary : Summary) (a b c : Seen) → IsIngest i → i.dataset ≡ dataset_of job → HasBase files job i.base → TablesRead files left job
     → KeepsFiles files f1 → has_one_client job ≡ true → job.stems ≡ stem ∷ [] → ClientEndAt i.dataset i.base (log_of i) f1 f2 (left (request_file stem)) stem fault summary.lines summary.refused
     → IsLater a b → FaultCause fault stem b c
     → summary.accepted ≡ 0 → summary.clients ≡ 1 → summary.entries ≡ 1 → summary.faults.items ≡ faults_of fault → summary.records ≡ i.records
     → summary.roots ≡ length i.entry.made → summary.status ≡ fault_status fault
     → CamePast files f2 left job a c (entry_text i.entry ++ summary_text summary) summary.status
-came_past files f1 f2 left stem job i fault summary a b c ok made base kept sole one ends later why h0 h1 h2 h3 h5 h7 h8 =
+came_past files f1 f2 left stem job i fault summary a b c ok made base read kept sole one ends later why h0 h1 h2 h3 h5 h7 h8 =
     let L : Dataset → Type 0 = λ d. Legal d i.base (log_of i) in
     record {
       only = sole;
       base = i.base;
       has_base = base;
+      read = read;
       small = not_large i.base ok.small;
       log = log_of i;
       legal = subst L made (legal_of i ok);

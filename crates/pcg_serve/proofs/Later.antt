@@ -1,6 +1,6 @@
 -- Counts that don't fall.
 use Rattle.std.proofs.Common.{◌≡◌, ◌≤◌, ℕ, Bool, true, false, List, bytes_eq, refl, sym, subst, arith, inl, inr}
-use Rattle.std.specs.Prelude.{◌⊎◌, ◌≢◌}
+use Rattle.std.specs.Prelude.{Result, Ok, Err, OnOk, ◌⊎◌, ◌≢◌}
 use Rattle.std.proofs.lemmas.Slice.Eq.{bytes_eq-Decides}
 use Rattle.pcg_base.specs.Causes.{Rose}
 use Rattle.pcg_base.specs.Told.{Counts, ReadsSource}
@@ -78,3 +78,7 @@ write_after a b c name h k = record {
   place = rose_after a.writes b.writes c.writes h.writes k.place;
   here = rose_after _ _ _ ((h.counts name).sink_openings) k.here;
 }
+
+pub on_ok : {A B : Type 0} {P : Type 0} (r : Result A B) → P → OnOk r P
+on_ok (Ok x) p = p
+on_ok (Err e) p = tt

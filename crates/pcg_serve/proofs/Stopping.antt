@@ -3,7 +3,6 @@ use Rattle.std.proofs.Common.{◌≡◌, ℕ, List, [], ◌∷◌, Option, Some,
 use Rattle.std.specs.Prelude.{◌⊎◌, Result, Ok, Err, IfErr, IsErrOf, OnErr}
 use Rattle.std.specs.FinMap.{get, insert}
 use Rattle.std.specs.Io.KnownBytes.{Keeps}
-use Rattle.pcg_base.specs.Causes.{Rose}
 use Rattle.pcg_base.specs.Told.{Files, IsLonger, IsLongerAt, KeepsFiles, PutsFile, PutsHeld, TellsAt, TellsTo}
 use Rattle.pcg_base.specs.declared.place.PlaceError.{PlaceError}
 use Rattle.pcg_base.specs.declared.place.PlaceError.TheVariants as errors
@@ -13,7 +12,7 @@ use Rattle.pcg_serve.specs.declared.client.Ended.{Ended}
 use Rattle.pcg_serve.specs.declared.stops.FileName.TheVariants as files
 use Rattle.pcg_serve.specs.declared.stops.Stop.{Stop}
 use Rattle.pcg_serve.specs.declared.stops.Stop.TheVariants as stops
-use Rattle.pcg_serve.specs.Causes.{Emptied, IsLater, ReadRose, Seen, StopsAt, StopsOnly, WasOpened, WriteRose}
+use Rattle.pcg_serve.specs.Causes.{Emptied, IsLater, Seen, StopsAt, StopsOnly, WasOpened, WriteRose}
 use Rattle.pcg_serve.proofs.ClientLemmas.{put_twice}
 use Rattle.pcg_serve.proofs.Later.{read_after, write_after}
 

@@ -1,22 +1,20 @@
 -- What the place's tables spell, and why they were not read.
-use Rattle.std.proofs.Common.{◌≡◌, ◌≤◌, ◌<◌, ℕ, List, length, Bool, true, false, Option, Some, None, bytes_eq, refl, sym, ◌∙◌, ap, inl, inr, subst}
+use Rattle.std.proofs.Common.{◌≡◌, ℕ, List, [], ◌∷◌, ◌++◌, Bool, true, false, Option, Some, None, bytes_eq, refl, sym, ◌∙◌, inl, inr, subst}
 use Rattle.pcg_serve.specs.declared.ingest.Ingest.{Ingest}
-use Rattle.std.specs.Prelude.{Result, Ok, Err, IfOk, ◌⊎◌, ◌≢◌, ◌||◌, ◌&&◌, not, IsTrue}
+use Rattle.std.specs.Prelude.{Result, Ok, Err, IfErr, IfOk, option_to_list, ◌≢◌, ◌||◌, ◌&&◌, not, IsTrue}
 use Rattle.std.proofs.lemmas.Bool.{false≢true}
-use Rattle.std.specs.FinMap.{get}
-use Rattle.std.specs.List.{list_any}
 use Rattle.std.proofs.lemmas.Slice.Eq.{bytes_eq-Decides}
 use Rattle.op_model.specs.declared.Base.{Base}
 use Rattle.pcg_base.specs.Told.{Files, KeepsFiles, IsLongerAt}
 use Rattle.pcg_words.specs.declared.job.RehearseJob.{RehearseJob}
-use Rattle.pcg_words.specs.Job.{IsJob, all_differ, job_files}
+use Rattle.pcg_words.specs.Job.{IsJob, all_differ, client_files, job_files, request_file}
 use Rattle.table_ingest.specs.Bases.{Spells}
 use Rattle.pcg_serve.specs.declared.stops.FileName.TheVariants as files
 use Rattle.pcg_serve.specs.declared.stops.Stop.{Stop}
 use Rattle.pcg_serve.specs.declared.stops.Stop.TheVariants as stops
 use Rattle.pcg_serve.specs.Jobs.{HasTable, HasBase, dataset_of, table_limit}
 use Rattle.pcg_serve.specs.Ingests.{MakesStop}
-use Rattle.pcg_serve.specs.Causes.{Seen, IsLater, HasFault, ReadRose, TableStop, TablesStop, WasRead}
+use Rattle.pcg_serve.specs.Causes.{Seen, IsLater, HasFault, TableStop, TablesRead, TablesStop, WasRead}
 use Rattle.pcg_serve.proofs.Later.{read_after}
 
 -- what a place tells stays the same while it is read
@@ -41,21 +39,6 @@ pub spelled_so : (old new : Option Files) (job : RehearseJob) (s e : List ℕ) (
     → HasTable old job.supervoxels s → HasTable new job.edges e → IfOk r (λ i. Spells (dataset_of job) s e i.base) → IfOk r (λ i. HasBase old job i.base)
 spelled_so old new job s e (Ok i) k hs he m = spelled old new job s e i.base k hs he m
 spelled_so old new job s e (Err stop) k hs he m = tt
-
--- the tables were read, and made nothing
-pub third_stop : (old new : Option Files) (left : List ℕ → List ℕ) (job : RehearseJob) (s e : List ℕ) (a c : Seen) (stop : Stop) → KeepsFiles old new
-    → HasTable old job.supervoxels s → HasTable new job.edges e → MakesStop (dataset_of job) s e stop → TablesStop old left job a c stop
-third_stop old new left job s e a c (stops.BadTable table row cause) k hs he m = go old k hs
-  where
-    go : (f : Option Files) → KeepsFiles f new → HasTable f job.supervoxels s → HasFault f job table row cause
-    go None k hs = tt
-    go (Some f) k hs = (s, e, (hs, kept (Some f) new job.edges e k he), m)
-third_stop old new left job s e a c stops.NotBuilt k hs he m = (m.0, spelled old new job s e m.0 k hs he m.1, m.2)
-third_stop old new left job s e a c stops.NoMemory k hs he m = tt
-third_stop old new left job s e a c stops.BadWords k hs he m = absurd m
-third_stop old new left job s e a c (stops.ReadFault client file) k hs he m = absurd m
-third_stop old new left job s e a c (stops.WriteFault client file) k hs he m = absurd m
-third_stop old new left job s e a c (stops.TooLong client file) k hs he m = absurd m
 
 -- the supervoxels weren't read
 pub first_stop : (m : Option Files) (left : List ℕ → List ℕ) (job : RehearseJob) (old new : Seen) (stop : Stop)
@@ -84,6 +67,39 @@ still : (m : Option Files) (before after : List ℕ → List ℕ) (name other : 
 still None before after name other away same w = tt
 still (Some m) before after name other away same w = (same name away ∙ w.0, w.1, w.2)
 
+-- what was read of a place that tells the same
+kept_read : (old new : Option Files) (left : List ℕ → List ℕ) (name : List ℕ) → KeepsFiles old new → WasRead new left name → WasRead old left name
+kept_read None new left name k w = tt
+kept_read (Some m) new left name k w =
+    let P : Option Files → Type 0 = λ f. WasRead f left name in
+    subst P k w
+
+-- both tables were read
+pub both_read : (m m1 : Option Files) (before after : List ℕ → List ℕ) (job : RehearseJob) → IsJob job → KeepsFiles m m1 → WasRead m before job.supervoxels → ((n : List ℕ) → n ≢ job.edges → after n ≡ before n)
+    → WasRead m1 after job.edges → TablesRead m after job
+both_read m m1 before after job ok k w same v =
+    (still m before after job.supervoxels job.edges (tables_differ job ok) same w, kept_read m m1 after job.edges k v)
+
+-- the tables were read, and made nothing
+pub third_stop : (old new : Option Files) (left : List ℕ → List ℕ) (job : RehearseJob) (s e : List ℕ) (a c : Seen) (stop : Stop) → KeepsFiles old new
+    → HasTable old job.supervoxels s → HasTable new job.edges e → TablesRead old left job → MakesStop (dataset_of job) s e stop → TablesStop old left job a c stop
+third_stop old new left job s e a c (stops.BadTable table row cause) k hs he r m = (go old k hs, r)
+  where
+    go : (f : Option Files) → KeepsFiles f new → HasTable f job.supervoxels s → HasFault f job table row cause
+    go None k hs = tt
+    go (Some f) k hs = (s, e, (hs, kept (Some f) new job.edges e k he), m)
+third_stop old new left job s e a c stops.NotBuilt k hs he r m = ((m.0, spelled old new job s e m.0 k hs he m.1, m.2), r)
+third_stop old new left job s e a c stops.NoMemory k hs he r m = tt
+third_stop old new left job s e a c stops.BadWords k hs he r m = absurd m
+third_stop old new left job s e a c (stops.ReadFault client file) k hs he r m = absurd m
+third_stop old new left job s e a c (stops.WriteFault client file) k hs he r m = absurd m
+third_stop old new left job s e a c (stops.TooLong client file) k hs he r m = absurd m
+
+pub third_so : (old new : Option Files) (left : List ℕ → List ℕ) (job : RehearseJob) (s e : List ℕ) (a c : Seen) (r : Result Ingest Stop) → KeepsFiles old new
+    → HasTable old job.supervoxels s → HasTable new job.edges e → TablesRead old left job → IfErr r (λ stop. MakesStop (dataset_of job) s e stop) → IfErr r (λ stop. TablesStop old left job a c stop)
+third_so old new left job s e a c (Ok i) k hs he r m = tt
+third_so old new left job s e a c (Err stop) k hs he r m = third_stop old new left job s e a c stop k hs he r m
+
 -- the supervoxels were read, and the edges weren't
 pub second_stop : (m m1 : Option Files) (before after : List ℕ → List ℕ) (job : RehearseJob) (a b c : Seen) (stop : Stop) → IsJob job → KeepsFiles m m1 → IsLater a b
     → WasRead m before job.supervoxels → ((n : List ℕ) → n ≢ job.edges → after n ≡ before n) → TableStop m1 job.edges files.Edges b c stop → TablesStop m after job a c stop
@@ -96,3 +112,43 @@ second_stop m m1 before after job a b c stop ok k later w same (inr (inl h)) =
 second_stop m m1 before after job a b c stop ok k later w same (inr (inr h)) =
     let P : Stop → Type 0 = λ s. TablesStop m after job a c s in
     subst P (sym h) tt
+
+second_differs : (x y z w : Bool) → IsTrue (not (x || (y || z)) && w) → y ≡ false
+second_differs true y z w h = absurd (cc)
+second_differs false true z w h = absurd (cc)
+second_differs false false z w h = refl
+
+third_differs : (u x y z w : Bool) → IsTrue (not (u || (x || (y || z))) && w) → y ≡ false
+third_differs true x y z w h = absurd (cc)
+third_differs false true y z w h = absurd (cc)
+third_differs false false true z w h = absurd (cc)
+third_differs false false false z w h = refl
+
+rest_differ : (x y : Bool) → IsTrue (x && y) → IsTrue y
+rest_differ true y h = h
+rest_differ false y h = absurd (cc)
+
+apart : (xs ys : List ℕ) → bytes_eq xs ys ≡ false → xs ≢ ys
+apart xs ys e same = absurd (false≢true (sym e ∙ (bytes_eq-Decides xs ys).1 same))
+
+-- the tables have other names than a client's requests
+client_differs : (supervoxels edges stem : List ℕ) (schedule : Option (List ℕ)) → IsTrue (all_differ (supervoxels ∷ edges ∷ (option_to_list schedule ++ client_files (stem ∷ []))))
+    → (supervoxels ≢ request_file stem) × (edges ≢ request_file stem)
+unfolding all_differ client_files
+client_differs supervoxels edges stem None h =
+    (apart supervoxels (request_file stem) (second_differs (bytes_eq supervoxels edges) _ _ _ h), apart edges (request_file stem) (first_differs _ _ _ (rest_differ _ _ h)))
+client_differs supervoxels edges stem (Some name) h =
+    (apart supervoxels (request_file stem) (third_differs (bytes_eq supervoxels edges) _ _ _ _ h), apart edges (request_file stem) (second_differs _ _ _ _ (rest_differ _ _ h)))
+
+names_differ : (job : RehearseJob) (stem : List ℕ) → IsJob job → job.stems ≡ stem ∷ [] → (job.supervoxels ≢ request_file stem) × (job.edges ≢ request_file stem)
+unfolding job_files
+names_differ job stem ok one =
+    let P : List (List ℕ) → Type 0 = λ stems. IsTrue (all_differ (job.supervoxels ∷ job.edges ∷ (option_to_list job.schedule ++ client_files stems))) in
+    client_differs job.supervoxels job.edges stem job.schedule (subst P one ok.names)
+
+-- the tables are still read behind the client's session
+pub read_still : (m : Option Files) (before after : List ℕ → List ℕ) (job : RehearseJob) (stem : List ℕ) → IsJob job → job.stems ≡ stem ∷ [] → ((n : List ℕ) → n ≢ request_file stem → after n ≡ before n)
+    → TablesRead m before job → TablesRead m after job
+read_still m before after job stem ok one same r =
+    let away = names_differ job stem ok one in
+    (still m before after job.supervoxels (request_file stem) away.0 same r.0, still m before after job.edges (request_file stem) away.1 same r.1)

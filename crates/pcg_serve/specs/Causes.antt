@@ -91,6 +91,10 @@ abbrev pub WasRead : Option Files → (List ℕ → List ℕ) → List ℕ → T
 WasRead None left name = ⊤
 WasRead (Some m) left name = (left name ≡ []) × (bytes : List ℕ) × HasTable (Some m) name bytes
 
+-- both tables were
+abbrev pub TablesRead : Option Files → (List ℕ → List ℕ) → RehearseJob → Type 0
+TablesRead m left job = WasRead m left job.supervoxels × WasRead m left job.edges
+
 -- where the place tells its bytes, the source that was kept back last at this name still had all of them: it was opened, and nothing was read
 abbrev pub WasOpened : Option Files → (List ℕ → List ℕ) → List ℕ → Type 0
 WasOpened None left name = ⊤
@@ -120,23 +124,23 @@ abbrev pub TableStop : Option Files → List ℕ → FileName → Seen → Seen 
 TableStop m name file old new stop =
     ((stop ≡ stops.ReadFault 0 file) × ReadRose old new name) ⊎ ((stop ≡ stops.TooLong 0 file) × IsLongerAt m name table_limit) ⊎ (stop ≡ stops.NoMemory)
 
--- why the tables gave no base: the supervoxels are read before the edges
+-- why the tables gave no base: the supervoxels are read before the edges, and both before either is looked into
 abbrev pub TablesStop : Option Files → (List ℕ → List ℕ) → RehearseJob → Seen → Seen → Stop → Type 0
 TablesStop m left job old new (stops.ReadFault client files.Supervoxels) = (client ≡ 0) × ReadRose old new job.supervoxels
 TablesStop m left job old new (stops.ReadFault client files.Edges) = (client ≡ 0) × ReadRose old new job.edges × WasRead m left job.supervoxels
 TablesStop m left job old new (stops.TooLong client files.Supervoxels) = (client ≡ 0) × IsLongerAt m job.supervoxels table_limit
 TablesStop m left job old new (stops.TooLong client files.Edges) = (client ≡ 0) × IsLongerAt m job.edges table_limit × WasRead m left job.supervoxels
-TablesStop m left job old new (stops.BadTable table row cause) = HasFault m job table row cause
-TablesStop m left job old new stops.NotBuilt = HasLargeBase m job
+TablesStop m left job old new (stops.BadTable table row cause) = HasFault m job table row cause × TablesRead m left job
+TablesStop m left job old new stops.NotBuilt = HasLargeBase m job × TablesRead m left job
 TablesStop m left job old new stops.NoMemory = ⊤
 TablesStop m left job old new stop = ⊥
 
--- Why a call stopped before its sessions, and what the files are then. The first step that failed decides: a client's files are opened only where the tables spelled a base, and until then no file changes.
+-- Why a call stopped before its sessions, and what the files are then. The first step that failed decides: a client's files are opened only after the tables were read and spelled a base, and until then no file changes.
 abbrev pub StopCause : Option Files → Option Files → (List ℕ → List ℕ) → RehearseJob → Seen → Seen → Stop → Type 0
 StopCause m m' left job old new stop =
     ((has_one_client job ≡ false) × (stop ≡ stops.NotBuilt) × KeepsFiles m m')
     ⊎ ((has_one_client job ≡ true) × TablesStop m left job old new stop × KeepsFiles m m')
-    ⊎ ((has_one_client job ≡ true) × HasSomeBase m job × StopsOnly m m' left job.stems old new stop)
+    ⊎ ((has_one_client job ≡ true) × HasSomeBase m job × TablesRead m left job × StopsOnly m m' left job.stems old new stop)
 
 -- the status of a call that came past its sessions, where a fault of its output doesn't count
 abbrev pub EndsSo : ℕ → ℕ → ℕ → ℕ → ℕ → Type 0

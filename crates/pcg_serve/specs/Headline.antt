@@ -35,7 +35,7 @@ use Rattle.pcg_serve.specs.declared.summary.ClientFault.{ClientFault}
 use Rattle.pcg_serve.specs.declared.stops.Stop.{Stop}
 use Rattle.pcg_serve.specs.declared.stops.Stop.TheVariants as stops
 use Rattle.pcg_serve.specs.Statuses.{status_of}
-use Rattle.pcg_serve.specs.Causes.{ReadBroke, Seen, StopCause, StatusSo, WriteBroke, has_one_client}
+use Rattle.pcg_serve.specs.Causes.{ReadBroke, Seen, StopCause, StatusSo, TablesRead, WriteBroke, has_one_client}
 use Rattle.pcg_serve.specs.Texts.{stop_text, summary_line}
 
 -- the lines of a log, its oldest entry first
@@ -243,11 +243,12 @@ abbrev pub OnlyFaultCause : Option Fault → List (List ℕ) → Seen → Seen �
 OnlyFaultCause fault [] old new = ⊥
 OnlyFaultCause fault (stem ∷ stems) old new = FaultCause fault stem old new
 
--- A call came past its sessions: its job has one client and no schedule, the tables spell a base that isn't too large yet, and what is printed are the lines of a legal log over it and the summary.
+-- A call came past its sessions: its job has one client and no schedule, the tables were read and spell a base that isn't too large yet, and what is printed are the lines of a legal log over it and the summary.
 pub record CamePast (files files' : Option Files) (left : List ℕ → List ℕ) (job : RehearseJob) (old new : Seen) (printed : List ℕ) (ended : ℕ) : Type 0 where
   pub only : has_one_client job ≡ true
   pub base : Base
   pub has_base : HasBase files job base
+  pub read : TablesRead files left job
   pub small : ¬ (IsLarge base)
   pub log : List Entry
   pub legal : Legal (dataset_of job) base log

@@ -1,6 +1,6 @@
 //! The only client: its requests are opened, read, answered and kept back.
 
-ghost use Rattle.std.specs.Prelude.{◌≡◌, ◌≤◌, ◌⊎◌, ◌↔◌, ◌∷◌, [], ℕ, List, Some, None, IfOk, IfErr, IsErrOf, OnErr, false, true, IsTrue};
+ghost use Rattle.std.specs.Prelude.{◌≡◌, ◌≢◌, ◌≤◌, ◌⊎◌, ◌↔◌, ◌∷◌, [], ℕ, List, Some, None, IfOk, IfErr, IsErrOf, OnErr, false, true, IsTrue};
 ghost use Rattle.std.specs.Io.KnownBytes.{Keeps};
 ghost use Rattle.pcg_base.specs.Causes.{Rose};
 ghost use Rattle.pcg_base.specs.Told.{IsLonger, KeepsFiles};
@@ -94,6 +94,7 @@ pub fn run_client<P: Place>(
     requires { IsIngest ingest.now }
     ensures stop { IfErr result (λ stop. StopsAt (P.files place.old) (P.files place.new) (P.left_at place.new) stem.now (record { reads = P.read_faults place.old; writes = P.write_faults place.old; counts = P.counts place.old }) (record { reads = P.read_faults place.new; writes = P.write_faults place.new; counts = P.counts place.new }) stop) }
     ensures ended { IfOk result (λ e. ClientEndAt ingest.now.dataset ingest.now.base (log_of ingest.now) (P.files place.old) (P.files place.new) (P.left_at place.new (request_file stem.now)) stem.now e.fault e.session.lines e.session.refused) }
+    ensures only_left { (n : List ℕ) → n ≢ request_file stem.now → P.left_at place.new n ≡ P.left_at place.old n }
     ensures others { KeepsOthers (stem.now ∷ []) (P.files place.old) (P.files place.new) }
     ensures whole { IfOk result (λ e. e.fault ≡ None → ClientDoneAt ingest.now stem.now (P.files place.old) (P.files place.new) e.session) }
     ensures cause { IfOk result (λ e. FaultCause e.fault stem.now (record { reads = P.read_faults place.old; writes = P.write_faults place.old; counts = P.counts place.old }) (record { reads = P.read_faults place.new; writes = P.write_faults place.new; counts = P.counts place.new })) }

@@ -7,7 +7,7 @@ ghost use Rattle.pcg_base.specs.Told.{AppendsFront};
 ghost use Rattle.pcg_words.specs.Job.{IsJob};
 ghost use Rattle.request_lines.specs.Texts.{entry_text};
 ghost use Rattle.pcg_serve.specs.Causes.{EndsSo, HasBadTable, HasLongTable, IsDue, IsUnbuilt, StatusSo, StopCause, has_one_client};
-ghost use Rattle.pcg_serve.specs.Headline.{CamePast, DoneAt, IsDone, KeepsOthers, Outcome, Prints, fault_status, faults_of};
+ghost use Rattle.pcg_serve.specs.Headline.{CamePast, DoneAt, IsDone, IsQuiet, KeepsOthers, Outcome, Prints, fault_status, faults_of};
 ghost use Rattle.pcg_serve.specs.Ingests.{IsIngest};
 ghost use Rattle.pcg_serve.specs.Statuses.{status_of};
 ghost use Rattle.pcg_serve.specs.Texts.{stop_text, summary_text};
@@ -120,7 +120,10 @@ fn rehearse<P: Place>(alloc: Global, job: &RehearseJob, place: &mut P) -> Result
     let Ok(faults) = Vec::with_capacity(alloc, 1) else {
         return Err(Stop::NoMemory);
     };
-    let ended = run_client(alloc, &ingest, stem, place)?;
+    let ended = match run_client(alloc, &ingest, stem, place) {
+        Ok(ended) => ended,
+        Err(stop) => return Err(stop),
+    };
     let summary = summary_of(&ingest, ended, faults);
     Ok(Rehearsed { ingest, summary })
 }
@@ -188,6 +191,8 @@ pub fn run_rehearse<P: Place, K: Sink>(
     ensures bad_table { result ≡ 3 → HasBadTable (P.files place.old) job.now }
     ensures too_long { result ≡ 7 → HasLongTable (P.files place.old) job.now }
     ensures outcome { Outcome (P.files place.old) (P.files place.new) (P.left_at place.new) job.now (record { reads = P.read_faults place.old; writes = P.write_faults place.old; counts = P.counts place.old }) (record { reads = P.read_faults place.new; writes = P.write_faults place.new; counts = P.counts place.new }) (K.held out.old) (K.held out.new) (K.faults out.old) (K.faults out.new) result }
+    ensures complete { IsQuiet (P.read_faults place.old) (P.read_faults place.new) (P.write_faults place.old) (P.write_faults place.new) (K.faults out.old) (K.faults out.new)
+        → ¬ (IsUnbuilt (P.files place.old) job.now) → ¬ (HasLongTable (P.files place.old) job.now) → ¬ (HasBadTable (P.files place.old) job.now) → (result ≡ 0) ⊎ (result ≡ 5) }
     ensures not_built_line { result ≡ 8 → Prints (K.held out.old) (K.held out.new) (K.faults out.old) (K.faults out.new) (stop_text Stop.NotBuilt) }
     ensures no_memory_line { result ≡ 5 → Prints (K.held out.old) (K.held out.new) (K.faults out.old) (K.faults out.new) (stop_text Stop.NoMemory) }
     ensures others { KeepsOthers job.now.stems (P.files place.old) (P.files place.new) }

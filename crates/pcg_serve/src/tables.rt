@@ -3,7 +3,7 @@
 ghost use Rattle.std.specs.Prelude.{◌≡◌, ◌≢◌, ◌≤◌, ℕ, List, IfOk, IfErr, OnOk};
 ghost use Rattle.pcg_base.specs.Told.{KeepsFiles};
 ghost use Rattle.pcg_words.specs.Job.{IsJob};
-ghost use Rattle.pcg_serve.specs.Causes.{IsLater, TableStop, TablesStop, WasRead};
+ghost use Rattle.pcg_serve.specs.Causes.{IsLater, TableStop, TablesRead, TablesStop, WasRead};
 ghost use Rattle.pcg_serve.specs.Ingests.{IsIngest};
 ghost use Rattle.pcg_serve.specs.Jobs.{HasBase, HasTable, dataset_of};
 
@@ -50,6 +50,7 @@ pub fn read_tables<P: Place>(
     ensures made { IfOk result (λ i. IsIngest i) }
     ensures dataset { IfOk result (λ i. i.dataset ≡ dataset_of job.now) }
     ensures base { IfOk result (λ i. HasBase (P.files place.old) job.now i.base) }
+    ensures read { OnOk result (TablesRead (P.files place.old) (P.left_at place.new) job.now) }
     ensures stop { IfErr result (λ stop. TablesStop (P.files place.old) (P.left_at place.new) job.now (record { reads = P.read_faults place.old; writes = P.write_faults place.old; counts = P.counts place.old }) (record { reads = P.read_faults place.new; writes = P.write_faults place.new; counts = P.counts place.new }) stop) }
     ensures later { IsLater (record { reads = P.read_faults place.old; writes = P.write_faults place.old; counts = P.counts place.old }) (record { reads = P.read_faults place.new; writes = P.write_faults place.new; counts = P.counts place.new }) }
     ensures files { KeepsFiles (P.files place.old) (P.files place.new) }

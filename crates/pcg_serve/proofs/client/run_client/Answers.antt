@@ -4,7 +4,6 @@ use Rattle.pcg_words.specs.Job.{request_file}
 use Rattle.pcg_serve.proofs.Ending.{ended_so}
 use Rattle.pcg_serve.proofs.ClientLemmas.{done_so}
 use Rattle.pcg_serve.proofs.Others.{others_then, others_kept, others_put, others_held}
-use Rattle.pcg_serve.proofs.Causing.{fault_cause, read_broke, write_broke}
 use Rattle.pcg_serve.proofs.Stopping.{stops_so}
 use Rattle.pcg_serve.proofs.client.run_client.Goals as goal
 
