@@ -16,7 +16,7 @@
 //!
 //! - `cut`: [`least_cut`]
 //! - `glue`: the first marks that walks of glue join
-//! - `arcs`: the links of each vertex, in two flat vectors
+//! - `arcs`: the links of each vertex and what they lead to, in flat vectors
 //! - `phases`: the greatest flow by phases
 //! - `breadth`: a phase's search in breadth
 //! - `blocking`: a phase's walks
