@@ -1,0 +1,89 @@
+ghost use Rattle.std.specs.Prelude.{◌≡◌, ◌<◌, ◌-◌, ◌≤◌, ◌∷◌, ◌++◌, [], length, slice_set, IfOk};
+ghost use Rattle.pcg_base.specs.WordStores.{word_store};
+
+use crate::traits::NoMemory;
+use crate::words::Words;
+use std::marker::Model;
+
+/// A vector of 64-bit words, with room for more that was taken beforehand. Contracts see its words
+/// and, beside them, for how many more there is room.
+#[derive(Debug, Drop)]
+pub struct VecWords {
+    items: Vec<u64>,
+}
+
+impl Model for VecWords {
+    ghost use Rattle.std.specs.Prelude.{vec_capacity, length, ◌-◌};
+    ghost use Rattle.pcg_base.specs.WordStores.{WordStore, word_store};
+
+    ghost Value = { WordStore };
+
+    ghost view = { λ v. word_store v.items.items (vec_capacity v.items - length v.items.items) };
+}
+
+impl VecWords {
+    /// These words, with room for at least `spare` more.
+    ///
+    /// # Errors
+    ///
+    /// `NoMemory` where the room can't be had.
+    pub fn new(words: Vec<u64>, spare: u64) -> Result<VecWords, NoMemory>
+        ensures words { IfOk result (λ v. v.words ≡ words.items) }
+        ensures spare { IfOk result (λ v. spare ≤ v.spare) }
+    {
+        let mut items = words;
+        match items.reserve(spare as usize) {
+            Ok(()) => Ok(VecWords { items }),
+            Err(_) => Err(NoMemory),
+        }
+    }
+
+    /// Puts a word behind the others, for which there must be room. It takes no memory.
+    pub fn push(&mut self, word: u64)
+        requires { 0 < self.old.spare }
+        ensures { self.new ≡ word_store (self.old.words ++ word ∷ []) (self.old.spare - 1) }
+    {
+        self.items.push_reserved(word);
+    }
+
+    /// Writes the k-th word, counted from 0. It takes no memory.
+    pub fn set(&mut self, k: u64, word: u64)
+        requires { k < length self.old.words }
+        ensures { self.new ≡ word_store (slice_set self.old.words k word) self.old.spare }
+    {
+        self.items[k as usize] = word;
+    }
+}
+
+impl Words for VecWords {
+    ghost words = { λ v. v.words };
+
+    fn len(&self) -> u64 {
+        self.items.len() as u64
+    }
+
+    fn word(&mut self, k: u64) -> u64 {
+        self.items[k as usize]
+    }
+}
+
+#[cfg(test)]
+mod tests {
+    use super::*;
+    use std::prelude::HostRuntime;
+
+    #[test]
+    fn words_are_appended_and_overwritten(rt: HostRuntime) -> Result<(), NoMemory> {
+        let Ok(first) = vec![in rt.alloc(); 7, 8] else {
+            return Err(NoMemory);
+        };
+        let mut words = VecWords::new(first, 2)?;
+        words.push(9);
+        words.set(0, 18446744073709551615);
+        words.push(10);
+        assert_eq!(rt; words.len(), 4);
+        let read = [words.word(0), words.word(1), words.word(2), words.word(3)];
+        assert_eq!(rt; read, [18446744073709551615, 8, 9, 10]);
+        Ok(())
+    }
+}
