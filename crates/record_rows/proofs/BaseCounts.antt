@@ -1,5 +1,5 @@
 -- The base of a legal log has as many records as are counted for it.
-use Rattle.std.proofs.Common.{◌≡◌, ℕ, zero, suc, ◌+◌, ◌-◌, ◌^◌, ◌<◌, ◌≤◌, Bool, true, false, cond, ◌&&◌, eqb, List, [], ◌∷◌, ◌++◌, length, map, refl, sym, ◌∙◌, ap, subst, inl, inr, arith, eq-eqb, length-append}
+use Rattle.std.proofs.Common.{◌≡◌, ℕ, zero, suc, ◌+◌, ◌-◌, ◌^◌, ◌<◌, ◌≤◌, Bool, true, false, cond, ◌&&◌, eqb, List, [], ◌∷◌, ◌++◌, length, map, refl, sym, ◌∙◌, ap, subst, inl, inr, arith, eq-eqb, length-append, ap₂}
 use Rattle.std.specs.List.{AllByRecursion, filter, flat_map, list_any}
 use Rattle.std.proofs.lemmas.Bool.{cases_Bool, cond-false, eqb-true, false≢true, and_parts, and_from, or_parts}
 use Rattle.chunk_geometry.specs.Chunks.{top_layer}
@@ -15,12 +15,13 @@ use Rattle.op_model.specs.Edges.{same_pair, pair_before, put_edge, put_edges, ed
 use Rattle.op_model.specs.Chunks.{chunk, layers, layers_from, top}
 use Rattle.op_model.specs.Labels.{edges, component, least, is_new, is_empty, new_among}
 use Rattle.op_model.specs.Operations.{ascending, first_entry}
-use Rattle.op_model.specs.Records.{total, children, made_count, child_count, nodes_in, node_count, root_count, chunk_count, base_records}
+use Rattle.op_model.specs.Records.{total, children, made_count, child_count, nodes_in, node_count, root_count, chunk_count, base_records, records}
 use Rattle.op_model.specs.Valid.{IsDataset, IsBase, PairsDiffer}
 use Rattle.op_model.specs.Legal.{Legal}
 use Rattle.op_model.proofs.LegalLemmas.{ascending_has}
 use Rattle.op_model.proofs.LabelLemmas.{same_component, own_component}
 use Rattle.op_model.proofs.LinkLemmas.{append_cases, append_left, append_right}
+use Rattle.record_rows.specs.Laws.{RecordsAreCounted}
 use Rattle.record_rows.specs.Rows.{Row, SupervoxelRow, ChunkRow, NodeRow, LinkRow, EdgeRow, ChangeRow, ItemRow, EntryRow}
 use Rattle.record_rows.specs.LogRows.{marks, layer_chunks, chunks, new_nodes, new_links, new_edges, entry_rows, base_rows, rows_of}
 use Rattle.record_rows.proofs.ImageLemmas.{length-map}
@@ -30,7 +31,7 @@ use Rattle.record_rows.proofs.LeastLemmas.{least_in, least_component, least_same
 use Rattle.record_rows.proofs.OnceLemmas.{all_has_self, all_pairs, ascending_differ, ascending_lists, layers_low, layers_differ}
 use Rattle.record_rows.proofs.LinkLemmas.{all_ascending, of_component}
 use Rattle.record_rows.proofs.SumLemmas.{total-flat, total_same, total_ones, parted, sorted_same, of_ascending, different_length}
-use Rattle.record_rows.proofs.CountLemmas.{component_differ, nodes_count, links_count}
+use Rattle.record_rows.proofs.CountLemmas.{component_differ, nodes_count, links_count, entry_count}
 
 flat_has : (f : ℕ → List ℕ) (ls : List ℕ) (l i : ℕ) → has ls l ≡ true → has (f l) i ≡ true → has (flat_map f ls) i ≡ true
 flat_has f [] l i h g = absurd (false≢true h)
@@ -276,3 +277,12 @@ module _ (d : Dataset) (b : Base) (valid : IsDataset d) (base : IsBase d b) wher
       where
         nothing_else : length (marks e.number e.asked) + length e.changed ≡ 0
         nothing_else = subst (λ f. length (marks f.number f.asked) + length f.changed ≡ 0) (sym legal.0) refl
+
+-- a legal log has as many records as are counted
+pub counted : RecordsAreCounted
+unfolding rows_of records
+counted d b [] valid base legal = absurd legal
+counted d b (e ∷ []) valid base legal = base_count d b valid base e legal
+counted d b (e ∷ f ∷ log) valid base legal =
+    length-append (rows_of d b (f ∷ log)) (entry_rows d b (f ∷ log) e)
+    ∙ ap₂ (λ (m n : ℕ). m + n) (counted d b (f ∷ log) valid base legal.1) (entry_count d b valid base e f log legal)

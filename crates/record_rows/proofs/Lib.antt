@@ -16,6 +16,8 @@ pub mod LinkLemmas
 pub mod ParentMeaning
 pub mod NodePlaces
 pub mod GrowthLemmas
+pub mod WalkLemmas
 pub mod SumLemmas
 pub mod CountLemmas
 pub mod BaseCounts
+pub mod ImageFacts

@@ -5,6 +5,8 @@ pub mod LogRows
 pub mod Images
 pub mod Growth
 pub mod Versions
+pub mod Readings
+pub mod Walks
 pub mod Laws
 pub mod Samples
 pub mod Worked

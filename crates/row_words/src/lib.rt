@@ -1,0 +1,14 @@
+//! The words of record rows: single words and pointers, the supervoxel of an id, and new records on
+//! their way into the words.
+//!
+//! A record has eight words, four fixed ones and then four pointers to other records. A `Spot` is
+//! a record's place: how many records stand before it.
+//!
+//! - `rows`: the words of one record
+#![tactic(auto)]
+
+mod rows;
+mod spot;
+
+pub use rows::{fixed, kind_of, pointer};
+pub use spot::Spot;
