@@ -7,6 +7,7 @@ pub mod Growth
 pub mod Versions
 pub mod Readings
 pub mod Walks
+pub mod Sorted
 pub mod Laws
 pub mod Samples
 pub mod Worked

@@ -4,8 +4,12 @@ use Rattle.std.specs.List.{filter, filter_map, list_any, slice_get}
 use Rattle.op_model.specs.declared.Pair.{Pair}
 use Rattle.op_model.specs.declared.Edge.{Edge}
 use Rattle.op_model.specs.Edges.{same_pair}
-use Rattle.record_rows.specs.Rows.{Row, ChunkRow, LinkRow, EntryRow, Node}
+use Rattle.record_rows.specs.Rows.{Row, SupervoxelRow, ChunkRow, LinkRow, EntryRow, Node}
 use Rattle.record_rows.specs.Chains.{retires}
+
+unfoldable pub is_supervoxel : ℕ → Row → Bool
+is_supervoxel id (SupervoxelRow v) = v == id
+is_supervoxel id row = false
 
 unfoldable pub is_chunk : ℕ → Row → Bool
 is_chunk id (ChunkRow c) = c == id

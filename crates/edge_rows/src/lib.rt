@@ -1,0 +1,9 @@
+//! Edges and their states, read from record rows.
+//!
+//! Each answer is that of the log whose image the words are: `Image` of record_rows says which
+//! words are meant. No call changes what a contract sees of the words.
+//!
+//! - `finding`: the record of a pair, and the ends of chains
+//! - `states`: the state of an edge at a prefix
+//! - `listing`: the edges of a supervoxel at a prefix
+#![tactic(auto)]

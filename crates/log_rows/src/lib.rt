@@ -1,0 +1,12 @@
+//! The operation log, read from record rows: how many entries there are, what each one is, and
+//! which were there at a time.
+//!
+//! `length`, `head`, `last_about` and `prefix_at` answer from the records of entries alone: what
+//! the records of edges, changes and items hold counts for nothing (`ParentImage` of record_rows).
+//! The other calls need the whole image. No call changes what a contract sees of the words.
+//!
+//! - `heads`: how many entries there are, and what one's record tells
+//! - `times`: which entries were there at a time
+//! - `asking`: what made an entry
+//! - `changing`: which pairs an entry changed
+#![tactic(auto)]

@@ -1,0 +1,12 @@
+//! Nodes and their parents, read from record rows: the record of an id, the nodes of a chunk, the
+//! parents and children of a node, and which entry retired it.
+//!
+//! Each answer is that of the log that the words stand for, and what the records of edges, changes
+//! and items hold counts for nothing: `ParentImage` of record_rows says which words are meant. No
+//! call changes what a contract sees of the words.
+//!
+//! - `finding`: the records of supervoxels, chunks and nodes
+//! - `nodes`: what a node's record tells, and its children
+//! - `chunk_nodes`: the nodes of a chunk
+//! - `versions`: the parents of a supervoxel or a node, entry by entry
+#![tactic(auto)]
