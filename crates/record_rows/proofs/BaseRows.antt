@@ -1,7 +1,7 @@
 -- The records of the base: supervoxels, then chunks, each with ascending ids, and no others of their kinds.
 use Rattle.std.proofs.Common.{◌≡◌, ◌≢◌, ℕ, zero, suc, ◌+◌, ◌-◌, ◌*◌, ◌/◌, ◌%◌, ◌<◌, ◌≤◌, ◌^◌, Bool, true, false, eqb, List, [], ◌∷◌, ◌++◌, length, map, get_or, Option, Some, None, refl, sym, ◌∙◌, ap, subst, eq-eqb, arith, length-append, append_assoc, append-nil}
 use Rattle.std.specs.List.{AllByRecursion, slice_get}
-use Rattle.std.proofs.lemmas.Bool.{ne_eqb}
+use Rattle.std.proofs.lemmas.Bool.{ne_eqb, false≢true}
 use Rattle.std.proofs.lemmas.Nat.{pow_pos}
 use Rattle.node_ids.specs.Ids.{parts_of, parts_over, width}
 use Rattle.op_model.specs.declared.Dataset.{Dataset}
@@ -10,6 +10,7 @@ use Rattle.op_model.specs.declared.Entry.{Entry}
 use Rattle.graph_model.specs.Lists.{has}
 use Rattle.op_model.specs.Chunks.{layers, chunk}
 use Rattle.op_model.specs.Valid.{IsDataset, IsBase}
+use Rattle.graph_model.proofs.ListLemmas.{has_head, has_tail}
 use Rattle.record_rows.specs.Rows.{Row, HeaderRow, SupervoxelRow, ChunkRow, NodeRow, LinkRow, EdgeRow, ChangeRow, ItemRow, EntryRow}
 use Rattle.record_rows.specs.Words.{place_from, fixed_words, words_of}
 use Rattle.record_rows.specs.LogRows.{layer_chunks, chunks, marks, new_edges, new_links, new_nodes, entry_rows, base_rows, rows_of}
@@ -293,3 +294,27 @@ module _ (d : Dataset) (b : Base) where
         (λ k h. ap (λ m. id_at words (m + k)) n ∙ chunk_told k h) found
         (subst (λ m. FoundAmong words m (length (chunks d b)) id found) e (subst (λ m. FoundAmong words (1 + supervoxel_count words) m id found) chunks_counted f))
         ∙ ap (first_place (is_chunk id)) (sym c.1)
+
+    -- a record of a supervoxel is that of one of the base
+    pub supervoxel_known : (p v : ℕ) → Holds d b log p (SupervoxelRow v) → has b.supervoxels v ≡ true
+    unfolding is_supervoxel
+    supervoxel_known p v h =
+        let s = supervoxels_in log in
+        known_in p v s.0 s.2 (subst (λ rs. slice_get rs p ≡ Some (SupervoxelRow v)) s.1 h)
+      where
+        same_supervoxel : {x y : ℕ} → SupervoxelRow x ≡ SupervoxelRow y → x ≡ y
+        same_supervoxel e = cc
+
+        in_after : (after : List Row) (k : ℕ) → AllByRecursion (Other is_supervoxel) after → slice_get after k ≡ Some (SupervoxelRow v) → ⊥
+        in_after [] k o q = cc
+        in_after (r ∷ after) zero o q = absurd (let e : r ≡ SupervoxelRow v = cc in let f : is_supervoxel v r ≡ false = o.0 v in let g : is_supervoxel v r ≡ true = ap (is_supervoxel v) e ∙ eq-eqb v v refl in false≢true (sym f ∙ g))
+        in_after (r ∷ after) (suc k) o q = in_after after k o.1 q
+
+        in_block : (xs : List ℕ) (after : List Row) (k : ℕ) → AllByRecursion (Other is_supervoxel) after → slice_get (map SupervoxelRow xs ++ after) k ≡ Some (SupervoxelRow v) → has xs v ≡ true
+        in_block [] after k o q = absurd (in_after after k o q)
+        in_block (x ∷ xs) after zero o q = let e : SupervoxelRow x ≡ SupervoxelRow v = cc in subst (λ y. has (x ∷ xs) y ≡ true) (same_supervoxel e) (has_head x xs)
+        in_block (x ∷ xs) after (suc k) o q = has_tail x xs v (in_block xs after k o q)
+
+        known_in : (k w : ℕ) (after : List Row) → AllByRecursion (Other is_supervoxel) after → slice_get ((head ∷ []) ++ (map SupervoxelRow b.supervoxels ++ after)) k ≡ Some (SupervoxelRow v) → has b.supervoxels v ≡ true
+        known_in zero w after o q = absurd (let e : head ≡ SupervoxelRow v = cc in cc)
+        known_in (suc k) w after o q = in_block b.supervoxels after k o q

@@ -22,3 +22,4 @@ pub mod CountLemmas
 pub mod BaseCounts
 pub mod ImageFacts
 pub mod BaseRows
+pub mod PrefixNodes
