@@ -5,10 +5,13 @@
 //! a record's place: how many records stand before it.
 //!
 //! - `rows`: the words of one record
+//! - `searching`: the record of an id, where ids ascend
 #![tactic(auto)]
 
 mod rows;
+mod searching;
 mod spot;
 
 pub use rows::{fixed, kind_of, pointer};
+pub use searching::{find_sorted, supervoxel};
 pub use spot::Spot;
