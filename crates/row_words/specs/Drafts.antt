@@ -1,6 +1,7 @@
 -- What contracts see of a draft: new records, and pointers of records before them that are to lead to new ones.
-use Rattle.std.specs.Prelude.{ℕ, ◌+◌, ◌-◌, ◌^◌, ◌<◌, ◌≤◌, List, [], ◌∷◌, ◌++◌, length, min, max}
-use Rattle.std.specs.List.{AllByRecursion}
+use Rattle.std.specs.Prelude.{ℕ, ◌+◌, ◌-◌, ◌*◌, ◌^◌, ◌<◌, ◌≤◌, List, [], ◌∷◌, ◌++◌, length, map, max}
+use Rattle.std.specs.List.{AllByRecursion, concat}
+use Rattle.record_rows.specs.Growth.{Store, stored}
 use Rattle.row_words.specs.declared.draft.DraftLink.{DraftLink}
 
 -- the place of the first new record, the words of each new record, the pointers, and for how many more records and pointers there is room
@@ -22,13 +23,21 @@ most_rows tail = 2 ^ 32 - max 1 tail
 abbrev pub with_row : DraftRows → List ℕ → DraftRows
 with_row d words = draft_rows d.tail (d.rows ++ words ∷ []) d.links (d.row_room - 1) d.link_room
 
--- the draft with one more pointer
-abbrev pub with_link : DraftRows → DraftLink → DraftRows
-with_link d link = draft_rows d.tail d.rows (d.links ++ link ∷ []) d.row_room (d.link_room - 1)
+-- the draft with one more pointer: this word of the record at a place, and where it is to lead
+abbrev pub with_link : DraftRows → ℕ → ℕ → ℕ → DraftRows
+with_link d place word target = draft_rows d.tail d.rows (d.links ++ record { from = place; k = word; to = target } ∷ []) d.row_room (d.link_room - 1)
 
 -- a pointer of a record before the tail
 abbrev pub IsPointerBelow : ℕ → DraftLink → Type 0
 IsPointerBelow tail link = (link.from < tail) × (4 ≤ link.k) × (link.k < 8)
+
+-- the store that fills a pointer
+abbrev pub store_of : DraftLink → Store
+store_of link = record { word = 8 * link.from + link.k; value = link.to }
+
+-- the words with the draft's pointers filled, and its records behind them
+abbrev pub applied : DraftRows → List ℕ → List ℕ
+applied d words = stored (map store_of d.links) words ++ concat d.rows
 
 -- what holds of every draft
 pub record IsDraft (tail : ℕ) (rows : List (List ℕ)) (links : List DraftLink) : Type 0 where

@@ -1,7 +1,7 @@
 //! New records on their way into the words.
 
-ghost use Rattle.std.specs.Prelude.{◌≡◌, ◌<◌, ◌≤◌, ◌+◌, ◌^◌, [], length, slice_index_or, IfOk};
-ghost use Rattle.row_words.specs.Drafts.{IsPointerBelow, with_link, with_row};
+ghost use Rattle.std.specs.Prelude.{◌≡◌, ◌<◌, ◌≤◌, ◌+◌, ◌^◌, [], length, slice_get, Some, IfOk};
+ghost use Rattle.row_words.specs.Drafts.{with_link, with_row};
 
 use crate::spot::Spot;
 use pcg_base::NoMemory;
@@ -78,8 +78,9 @@ impl Draft {
     /// the record at `from`, before the tail, is to lead to the record at `to`. It takes no memory.
     pub fn add_link(&mut self, from: Spot, k: u8, to: Spot)
         requires room { 0 < self.old.link_room }
-        requires pointer { IsPointerBelow self.old.tail (record { from = from; k = k; to = to }) }
-        ensures put { self.new ≡ with_link self.old (record { from = from; k = k; to = to }) }
+        requires before { from < self.old.tail }
+        requires pointer { (4 ≤ k) × (k < 8) }
+        ensures put { self.new ≡ with_link self.old from k to }
     {
         self.links.push_reserved(DraftLink { from, k, to });
     }
@@ -101,7 +102,7 @@ impl Draft {
     /// The words of the k-th new record, counted from 0.
     pub fn row(&self, k: u32) -> [u64; 8]
         requires { k < length self.now.rows }
-        ensures { result ≡ slice_index_or self.now.rows k [] }
+        ensures { slice_get self.now.rows k ≡ Some result }
     {
         self.rows[k as usize]
     }
@@ -116,8 +117,9 @@ impl Draft {
     /// The k-th pointer, counted from 0.
     pub fn link(&self, k: u32) -> DraftLink
         requires { k < length self.now.links }
-        ensures is { result ≡ slice_index_or self.now.links k result }
-        ensures pointer { IsPointerBelow self.now.tail result }
+        ensures is { slice_get self.now.links k ≡ Some result }
+        ensures before { result.from < self.now.tail }
+        ensures pointer { (4 ≤ result.k) × (result.k < 8) }
     {
         self.links[k as usize]
     }
