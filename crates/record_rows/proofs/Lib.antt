@@ -23,3 +23,4 @@ pub mod BaseCounts
 pub mod ImageFacts
 pub mod BaseRows
 pub mod PrefixNodes
+pub mod StoreLemmas
