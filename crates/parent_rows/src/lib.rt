@@ -10,3 +10,7 @@
 //! - `chunk_nodes`: the nodes of a chunk
 //! - `versions`: the parents of a supervoxel or a node, entry by entry
 #![tactic(auto)]
+
+mod versions;
+
+pub use versions::{last_version, parent_at};

@@ -24,3 +24,4 @@ pub mod ImageFacts
 pub mod BaseRows
 pub mod PrefixNodes
 pub mod StoreLemmas
+pub mod RowFacts
