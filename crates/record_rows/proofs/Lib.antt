@@ -6,7 +6,6 @@ pub mod StoreLaw
 pub mod HeaderLemmas
 pub mod ToldLaws
 pub mod LayerIds
-pub mod LeastLemmas
 pub mod Listings
 pub mod DifferLemmas
 pub mod OnceLemmas
