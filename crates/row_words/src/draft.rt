@@ -8,16 +8,21 @@ use pcg_base::NoMemory;
 use std::alloc::Global;
 use std::marker::Model;
 
-/// A pointer that is to lead to a new record: word `k`, from 4 to 7, of the record at `from`.
+/// A pointer of a record before the tail, and where it is to lead.
 #[derive(Clone, Copy, PartialEq, Eq, Debug, Drop)]
 pub struct DraftLink {
+    /// The record that has the pointer.
     pub from: Spot,
+    /// Which of its words the pointer is, from 4 to 7.
     pub k: u8,
+    /// The record that it is to lead to.
     pub to: Spot,
 }
 
-/// New records behind those of the words, and the pointers of those that are to lead to new ones.
-/// It begins at the tail, the place of its first record. Its memory was taken beforehand.
+/// New records behind those of the words, and pointers of those that are to be filled. The tail is
+/// the place of the first new record. Memory was taken beforehand: contracts see the records, the
+/// pointers, and for how many more of each there is room: no more records than have places below
+/// 2^32.
 #[derive(Debug, Drop)]
 pub struct Draft {
     tail: u32,
@@ -31,7 +36,9 @@ impl Model for Draft {
 
     ghost Value = { DraftRows };
 
-    ghost view = { λ d. draft_rows d.tail d.rows.items d.links.items (min (vec_capacity d.rows) (most_rows d.tail) - length d.rows.items) (min (vec_capacity d.links) (2 ^ 32 - 1) - length d.links.items) };
+    ghost view = { λ d. draft_rows d.tail d.rows.items d.links.items
+        (min (vec_capacity d.rows) (most_rows d.tail) - length d.rows.items)
+        (min (vec_capacity d.links) (2 ^ 32 - 1) - length d.links.items) };
 
     ghost invariant = { λ d. IsDraft d.tail d.rows.items d.links.items };
 }
@@ -51,15 +58,19 @@ impl Draft {
         ensures row_room { IfOk result (λ d. count ≤ d.row_room) }
         ensures link_room { IfOk result (λ d. links ≤ d.link_room) }
     {
-        let mut new_rows = Vec::new(alloc);
-        if new_rows.reserve(count as usize).is_err() {
+        let mut rows = Vec::new(alloc);
+        if rows.reserve(count as usize).is_err() {
             return Err(NoMemory);
         }
-        let mut new_links = Vec::new(alloc);
-        if new_links.reserve(links as usize).is_err() {
+        let mut pointers = Vec::new(alloc);
+        if pointers.reserve(links as usize).is_err() {
             return Err(NoMemory);
         }
-        Ok(Draft { tail, rows: new_rows, links: new_links })
+        Ok(Draft {
+            tail,
+            rows,
+            links: pointers,
+        })
     }
 
     /// Puts a record behind the others, for which there must be room, and gives its place. It takes
