@@ -1,3 +1,4 @@
 pub mod Told
 pub mod ChainWalks
 pub mod VersionWalks
+pub mod NodeWalks

@@ -22,3 +22,5 @@ pub mod CountLemmas
 pub mod BaseCounts
 pub mod ImageFacts
 pub mod RowFacts
+pub mod Picks
+pub mod NodeOrder
