@@ -2,3 +2,4 @@ pub mod Told
 pub mod ChainWalks
 pub mod VersionWalks
 pub mod NodeWalks
+pub mod ChunkWalks

@@ -45,4 +45,4 @@ returns-clause-is g c = λ d b log x i h. last_end (node_in x) (rows_of d b log)
 
 pub returns-clause-greatest : goal.returns-clause-greatest
 returns-clause-greatest g c = λ d b log x i h.
-    greatest_last d b log i.dataset i.base i.legal x (last_end (node_in x) (rows_of d b log) c.loop-at.at c.loop-at.found c.in_default.not-Some (c.loop-at.invariant.1 d b log x i h))
+    greatest_last d b i.dataset i.base log x (last_end (node_in x) (rows_of d b log) c.loop-at.at c.loop-at.found c.in_default.not-Some (c.loop-at.invariant.1 d b log x i h))

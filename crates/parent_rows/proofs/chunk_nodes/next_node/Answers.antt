@@ -1,4 +1,5 @@
 use Rattle.std.proofs.Common.{◌∙◌}
+use Rattle.parent_rows.proofs.ChunkWalks.{next_greater}
 use Rattle.parent_rows.proofs.Told.{next_node_leads}
 use Rattle.parent_rows.proofs.chunk_nodes.next_node.Goals as goal
 
@@ -12,4 +13,4 @@ pub returns-clause-is : goal.returns-clause-is
 returns-clause-is g c = λ d b log x i h. c.pointer.ensures.is ∙ (next_node_leads d b log _ i c.args.node x h).2
 
 pub returns-clause-ascending : goal.returns-clause-ascending
-returns-clause-ascending g c = ?
+returns-clause-ascending g c = λ d b log n i h. next_greater d b i.dataset i.base log c.args.node n h (c.pointer.ensures.is ∙ (next_node_leads d b log _ i c.args.node n h).2)
