@@ -1,0 +1,3 @@
+pub mod ChainFacts
+pub mod EdgeLists
+pub mod EdgeMeaning

@@ -3,7 +3,10 @@
 //! Each answer is that of the log whose image the words are: `Image` of record_rows says which
 //! words are meant. No call changes what a contract sees of the words.
 //!
+//! - `chains`: from one record of a chain to the next
 //! - `finding`: the record of a pair, and the ends of chains
 //! - `states`: the state of an edge at a prefix
 //! - `listing`: the edges of a supervoxel at a prefix
 #![tactic(auto)]
+
+mod chains;

@@ -21,6 +21,9 @@ pub mod SumLemmas
 pub mod CountLemmas
 pub mod BaseCounts
 pub mod ImageFacts
+pub mod BaseRows
+pub mod PrefixNodes
+pub mod StoreLemmas
 pub mod RowFacts
 pub mod Picks
 pub mod NodeOrder

@@ -1,12 +1,12 @@
 -- Walks along a chain of records, whatever its test: from the first record that passes it to the next one, until there is none.
-use Rattle.std.proofs.Common.{◌≡◌, ℕ, zero, suc, ◌+◌, ◌-◌, ◌<◌, ◌≤◌, Bool, true, false, cond, eqb, List, [], ◌∷◌, length, map, drop, get_or, Option, Some, None, refl, sym, ◌∙◌, ap, subst, inl, inr, ◌⊎◌, arith}
-use Rattle.std.specs.List.{slice_get, filter_map, cons_option, last_or}
-use Rattle.std.proofs.lemmas.Bool.{cond_both, eqb-true, eqb-false, cond-false, ne_eqb}
+use Rattle.std.proofs.Common.{◌≡◌, ℕ, zero, suc, ◌+◌, ◌-◌, ◌<◌, ◌≤◌, Bool, true, false, cond, eqb, List, [], ◌∷◌, length, drop, get_or, Option, Some, None, refl, sym, ◌∙◌, ap, subst, arith}
+use Rattle.std.specs.List.{slice_get, filter_map, cons_option}
+use Rattle.std.proofs.lemmas.Bool.{cond-false, ne_eqb}
 use Rattle.std.proofs.lemmas.Option.{slice_get_within, get_or_from_slice_get}
 use Rattle.std.proofs.lemmas.List.{drop_more}
 use Rattle.record_rows.specs.Rows.{Row}
 use Rattle.record_rows.specs.Words.{place_from}
-use Rattle.record_rows.specs.Readings.{place_of, first_place, next_place, members, last_place}
+use Rattle.record_rows.specs.Readings.{place_of, first_place, next_place, members}
 
 -- the records from a place on; none where there is no place
 unfoldable pub from_spot : List Row → Option ℕ → List Row
@@ -44,7 +44,7 @@ drop_step (r ∷ all) (suc place) row rows h =
     let ih : (slice_get all place ≡ Some row) × (drop (place + 1) all ≡ rows) = drop_step all place row rows h in
     (ih.0, rw e ih.1)
 
-place_of-some : (p : ℕ) → 1 ≤ p → place_of p ≡ Some p
+pub place_of-some : (p : ℕ) → 1 ≤ p → place_of p ≡ Some p
 unfolding place_of
 place_of-some p h = cond-false (eqb p 0) None (Some p) (ne_eqb p 0 (λ e. absurd (let q : p ≡ 0 = e in omega arith)))
 
