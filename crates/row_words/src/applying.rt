@@ -55,7 +55,7 @@ fn put_row(w: &mut VecWords, row: [u64; 8])
     requires room { 8 ≤ w.old.spare }
     ensures { w.new ≡ word_store (w.old.words ++ row) (w.old.spare - 8) }
 {
-    for k in 0..8 {
-        w.push(row[k]);
+    for word in row {
+        w.push(word);
     }
 }

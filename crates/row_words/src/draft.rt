@@ -31,7 +31,9 @@ impl Model for Draft {
 
     ghost Value = { DraftRows };
 
-    ghost view = { λ d. draft_rows d.tail d.rows.items d.links.items (min (vec_capacity d.rows) (most_rows d.tail) - length d.rows.items) (min (vec_capacity d.links) (2 ^ 32 - 1) - length d.links.items) };
+    ghost view = { λ d. draft_rows d.tail d.rows.items d.links.items
+        (min (vec_capacity d.rows) (most_rows d.tail) - length d.rows.items)
+        (min (vec_capacity d.links) (2 ^ 32 - 1) - length d.links.items) };
 
     ghost invariant = { λ d. IsDraft d.tail d.rows.items d.links.items };
 }
@@ -51,15 +53,19 @@ impl Draft {
         ensures row_room { IfOk result (λ d. count ≤ d.row_room) }
         ensures link_room { IfOk result (λ d. links ≤ d.link_room) }
     {
-        let mut new_rows = Vec::new(alloc);
-        if new_rows.reserve(count as usize).is_err() {
+        let mut rows = Vec::new(alloc);
+        if rows.reserve(count as usize).is_err() {
             return Err(NoMemory);
         }
-        let mut new_links = Vec::new(alloc);
-        if new_links.reserve(links as usize).is_err() {
+        let mut pointers = Vec::new(alloc);
+        if pointers.reserve(links as usize).is_err() {
             return Err(NoMemory);
         }
-        Ok(Draft { tail, rows: new_rows, links: new_links })
+        Ok(Draft {
+            tail,
+            rows,
+            links: pointers,
+        })
     }
 
     /// Puts a record behind the others, for which there must be room, and gives its place. It takes

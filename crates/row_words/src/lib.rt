@@ -15,6 +15,8 @@ mod draft;
 mod rows;
 mod searching;
 mod spot;
+#[cfg(test)]
+mod tests;
 
 pub use applying::apply;
 pub use draft::{Draft, DraftLink};
