@@ -24,3 +24,5 @@ pub mod BaseRows
 pub mod PrefixNodes
 pub mod StoreLemmas
 pub mod RowFacts
+pub mod Picks
+pub mod NodeOrder
