@@ -52,3 +52,7 @@ module _ (d : Dataset) (b : Base) (log : List Entry) (words : List ℕ) (i : Ima
   pub next_change_is : (p entry : ℕ) (c : Changed) → HoldsChange d b log p entry c → place_of (get_or words (8 * p + 5) 0) ≡ next_place (change_of c.pair) (rows_of d b log) p
   unfolding aims
   next_change_is p entry c h = image_next d b log words i p 1 (ChangeRow entry c) (change_of c.pair) h (omega arith) refl
+
+  pub supervoxel_is : (p v : ℕ) → HoldsSupervoxel d b log p v → get_or words (8 * p + 1) 0 ≡ v
+  unfolding fixed_words
+  supervoxel_is p v h = image_fixed d b log words i p 1 (SupervoxelRow v) h (omega arith)

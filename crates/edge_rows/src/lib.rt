@@ -4,9 +4,18 @@
 //! words are meant. No call changes what a contract sees of the words.
 //!
 //! - `chains`: from one record of a chain to the next
+//! - `fields`: what the words of an edge or a change tell
 //! - `finding`: the record of a pair, and the ends of chains
 //! - `states`: the state of an edge at a prefix
+//! - `inserting`: edges put into an ascending list
 //! - `listing`: the edges of a supervoxel at a prefix
 #![tactic(auto)]
 
 mod chains;
+mod fields;
+mod finding;
+mod inserting;
+mod states;
+
+pub use finding::{last_change, last_edge};
+pub use states::state_at;
