@@ -21,3 +21,4 @@ pub mod SumLemmas
 pub mod CountLemmas
 pub mod BaseCounts
 pub mod ImageFacts
+pub mod EntryRecords
