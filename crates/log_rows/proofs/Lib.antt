@@ -1,0 +1,3 @@
+mod EntryWords
+mod KindCodes
+mod WalkBack

@@ -10,3 +10,9 @@
 //! - `asking`: what made an entry
 //! - `changing`: which pairs an entry changed
 #![tactic(auto)]
+
+mod heads;
+mod records;
+
+pub use heads::{entry_spot, head, last_about, length};
+pub use records::Head;

@@ -139,6 +139,10 @@ module _ (d : Dataset) (b : Base) where
   more_rows [] = omega arith
   more_rows (e ∷ log) = omega (arith, more_rows log, length-rows e log)
 
+  -- an entry has records
+  pub more_before : (e : Entry) (log : List Entry) → length (rows_of d b log) < length (rows_of d b (e ∷ log))
+  more_before e log = omega (arith, length-rows e log)
+
   -- an entry's record tells of an entry of the log, and those before it
   pub stands_in : (log : List Entry) (p : ℕ) (e : Entry) → Holds d b log p (EntryRow e) → Stand d b log p e
   unfolding rows_of
