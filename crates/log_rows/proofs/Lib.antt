@@ -1,3 +1,4 @@
 mod EntryWords
 mod KindCodes
 mod WalkBack
+mod TimeLemmas

@@ -5,6 +5,7 @@ use Rattle.std.proofs.lemmas.Bool.{eq-eqb, eqb-false}
 use Rattle.op_model.specs.declared.Dataset.{Dataset}
 use Rattle.op_model.specs.declared.Base.{Base}
 use Rattle.op_model.specs.declared.Entry.{Entry}
+use Rattle.op_model.specs.Refusals.{last_at}
 use Rattle.op_model.specs.Legal.{Legal}
 use Rattle.op_model.specs.Operations.{undoes, redoes, entry_at, last_about}
 use Rattle.op_model.proofs.HistoryLemmas.{legal_prefix}
@@ -100,6 +101,13 @@ pub last_entry : (d : Dataset) (b : Base) (log : List Entry) (words : List ℕ) 
 last_entry d b [] words place i p = absurd i.legal
 last_entry d b (e ∷ older) words place i p = (e, subst (λ q. HoldsEntry d b (e ∷ older) q e) (sym p) (stands_at d b [] e older), (let n : e.number ≡ length older = number_told d b e older i.legal in omega arith))
 
+-- an image's last record has the timestamp of the newest entry
+pub last_time : (d : Dataset) (b : Base) (log : List Entry) (words : List ℕ) (place : ℕ) → ParentImage d b log words → place ≡ length (rows_of d b log) - 1
+    → (e : Entry) × HoldsEntry d b log place e × (e.at ≡ last_at log)
+unfolding last_at
+last_time d b [] words place i p = absurd i.legal
+last_time d b (e ∷ older) words place i p = (e, subst (λ q. HoldsEntry d b (e ∷ older) q e) (sym p) (stands_at d b [] e older), refl)
+
 -- all logs that the words tell of are of one length
 pub same_count : (d : Dataset) (b : Base) (log : List Entry) (d' : Dataset) (b' : Base) (log' : List Entry) (words : List ℕ) → ParentImage d b log words → ParentImage d' b' log' words → length log ≡ length log'
 same_count d b log d' b' log' words i j =
@@ -153,6 +161,15 @@ module _ (words : List ℕ) (place : ℕ) (test : Entry → Bool) where
         let s = all d b log i in
         let h = walk_holds d b log place test s in
         (s.entry, h, walk_finds d b log place test s (t d b log s.entry i h))
+
+    -- nothing is found, and the walk is at the first entry
+    pub all_ended : AllTest words place test false → AllBefore words place None → (d : Dataset) (b : Base) (log : List Entry) → ParentImage d b log words
+        → (newer : List Entry) × (e : Entry) × HoldsEntry d b log place e × (log ≡ newer ++ e ∷ [])
+    all_ended t n d b log i =
+        let s = all d b log i in
+        let h = walk_holds d b log place test s in
+        let z = (walk_ends d b log place test s i.legal (t d b log s.entry i h) (sym (n d b log s.entry i h))).1 in
+        (s.newer, s.entry, h, s.whole ∙ ap (λ o. s.newer ++ s.entry ∷ o) z)
 
     pub all_at : (d : Dataset) (b : Base) (log : List Entry) → ParentImage d b log words → AtEntry words place
     all_at d b log i = at_walk d b log words place test i (all d b log i)

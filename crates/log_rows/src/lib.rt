@@ -13,6 +13,8 @@
 
 mod heads;
 mod records;
+mod times;
 
 pub use heads::{entry_spot, head, last_about, length};
 pub use records::Head;
+pub use times::{TimeRefusal, prefix_at};
