@@ -2,3 +2,5 @@ mod EntryWords
 mod KindCodes
 mod WalkBack
 mod TimeLemmas
+mod EntryParts
+mod ChangeWords

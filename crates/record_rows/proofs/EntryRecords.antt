@@ -184,7 +184,7 @@ module _ (d : Dataset) (b : Base) where
   number_told e [] legal = ap (λ f. f.number) legal.0
   number_told e (f ∷ log) legal = ap (λ g. g.number) legal.0.2
 
-  numbers_below : (e : Entry) (log : List Entry) → Legal d b (e ∷ log) → AllByRecursion (λ f. f.number < length (e ∷ log)) (e ∷ log)
+  pub numbers_below : (e : Entry) (log : List Entry) → Legal d b (e ∷ log) → AllByRecursion (λ f. f.number < length (e ∷ log)) (e ∷ log)
   numbers_below e [] legal = (let n = number_told e [] legal in omega arith, tt)
   numbers_below e (f ∷ log) legal =
       (
