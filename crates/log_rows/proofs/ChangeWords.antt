@@ -10,7 +10,7 @@ use Rattle.record_rows.specs.Rows.{Row, HeaderRow, SupervoxelRow, ChunkRow, Node
 use Rattle.record_rows.specs.Chains.{aims, change_in}
 use Rattle.record_rows.specs.Words.{bit, fixed_words}
 use Rattle.record_rows.specs.LogRows.{marks, rows_of}
-use Rattle.record_rows.specs.Readings.{Image, HoldsChange, place_of, first_place, next_place}
+use Rattle.record_rows.specs.Readings.{Image, Holds, HoldsChange, place_of, first_place, next_place}
 use Rattle.record_rows.proofs.ImageFacts.{parent_image, within, image_fixed, image_small, image_first, image_next}
 use Rattle.log_rows.specs.Entries.{HoldsEntry}
 use Rattle.log_rows.proofs.EntryParts.{Picks, none_picked}
@@ -110,3 +110,12 @@ change_picks n = record {
   entries = λ e. refl;
   own = λ e. (let items_none : filter_map (change_told n) (map ItemRow (marks e.number e.asked)) ≡ [] = none_picked (change_told n) ItemRow (λ i. refl) (marks e.number e.asked) in rw items_none (told_changes e.number n e.changed));
 }
+
+-- the header is no change
+pub header_skips : (n : ℕ) (d : Dataset) (s c : ℕ) → change_in n (HeaderRow d s c) ≡ false
+unfolding change_in
+header_skips n d s c = refl
+
+-- the record of a change, by what the entry's chain asks
+pub change_at : (d : Dataset) (b : Base) (log : List Entry) (n p : ℕ) (row : Row) → Holds d b log p row → change_in n row ≡ true → (c : Changed) × HoldsChange d b log p n c × (change_told n row ≡ Some c)
+change_at d b log n p row h t = let c = is_change n row t in (c.0, h ∙ ap Some c.1, c.2)

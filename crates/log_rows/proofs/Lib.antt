@@ -3,4 +3,5 @@ mod KindCodes
 mod WalkBack
 mod TimeLemmas
 mod EntryParts
+mod ChainWalk
 mod ChangeWords
