@@ -26,3 +26,4 @@ pub mod StoreLemmas
 pub mod RowFacts
 pub mod Picks
 pub mod NodeOrder
+pub mod EntryRecords
