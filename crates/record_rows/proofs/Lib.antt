@@ -22,6 +22,7 @@ pub mod BaseCounts
 pub mod ImageFacts
 pub mod BaseRows
 pub mod PrefixNodes
+pub mod FirstRoots
 pub mod StoreLemmas
 pub mod RowFacts
 pub mod Picks

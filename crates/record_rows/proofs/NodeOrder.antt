@@ -206,7 +206,7 @@ module _ (d : Dataset) (b : Base) (valid : IsDataset d) (base : IsBase d b) wher
       (nodes_ordered log) (news_ordered e log e.number) (old_new e log e.number (nodes_of d b log) (nodes_given log))
 
 -- the node, if the record is one
-pub node_of : Row → Option Node
+unfoldable pub node_of : Row → Option Node
 node_of (NodeRow n) = Some n
 node_of row = None
 
@@ -230,7 +230,7 @@ node_all P (NodeRow x ∷ rows) (suc p) n a h = node_all P rows p n a.1 h
 node_all P (row ∷ rows) zero n a h = cc
 node_all P (row ∷ rows) (suc p) n a h = node_all P rows p n a h
 
-two_nodes : (R : Node → Node → Type 0) (rows : List Row) (p q : ℕ) (m n : Node) → Differ R (filter_map node_of rows) → p < q → slice_get rows p ≡ Some (NodeRow m) → slice_get rows q ≡ Some (NodeRow n) → R m n
+pub two_nodes : (R : Node → Node → Type 0) (rows : List Row) (p q : ℕ) (m n : Node) → Differ R (filter_map node_of rows) → p < q → slice_get rows p ≡ Some (NodeRow m) → slice_get rows q ≡ Some (NodeRow n) → R m n
 unfolding node_of
 two_nodes R [] p q m n a l h k = cc
 two_nodes R (NodeRow x ∷ rows) zero zero m n a l h k = absurd (omega arith)
