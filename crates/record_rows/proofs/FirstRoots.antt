@@ -2,6 +2,7 @@
 use Rattle.std.proofs.Common.{◌≡◌, ℕ, zero, suc, ◌+◌, ◌-◌, ◌^◌, ◌<◌, ◌≤◌, Bool, true, false, cond, ◌&&◌, eqb, List, [], ◌∷◌, ◌++◌, length, map, drop, Option, Some, None, refl, sym, ◌∙◌, ap, ap₂, subst, inl, inr, ◌⊎◌, eq-eqb, arith}
 use Rattle.std.specs.List.{AllByRecursion, slice_get, filter_map, cons_option, flat_map}
 use Rattle.std.specs.Option.{option_and_then}
+use Rattle.std.proofs.Math.Nat.{eq-or-lt_of_le}
 use Rattle.std.proofs.lemmas.Bool.{cond-true, cond-false, and_parts, and_from, eqb-true, false≢true, cases_Bool}
 use Rattle.op_model.specs.declared.Dataset.{Dataset}
 use Rattle.op_model.specs.declared.Base.{Base}
@@ -31,6 +32,7 @@ use Rattle.record_rows.proofs.SumLemmas.{sorted_same}
 use Rattle.record_rows.proofs.LinkLemmas.{Among, node_made, among_left}
 use Rattle.record_rows.proofs.NodeOrder.{Ordered, nodes_ordered, node_of, nodes_rows, two_nodes}
 use Rattle.record_rows.proofs.EntryRecords.{number_told}
+use Rattle.record_rows.proofs.WalkLemmas.{drop_step}
 
 -- the node's id, if it is of this chunk and made by the first entry
 first_id : ℕ → Node → Option ℕ
@@ -194,3 +196,77 @@ module _ (d : Dataset) (b : Base) (valid : IsDataset d) (base : IsBase d b) wher
       same_id : (l k u v : ℕ) → Legal d b (e ∷ []) → has (layers d) l ≡ true → has (layers d) k ≡ true → has b.supervoxels u ≡ true → has b.supervoxels v ≡ true → node d b (e ∷ []) l u ≡ node d b (e ∷ []) k v → chunk d l u ≡ chunk d k v
       same_id l k u v first hl hk hu hv q =
           (id_parts d valid.layout l k u v _ _ (layer_low d l hl) (layer_low d k hk) (labels_fit d b (e ∷ []) l u first hl hu) (labels_fit d b (e ∷ []) k v first hk hv) (unfolded l k u v q)).1
+
+-- nodes stand in the order of the entries that made them
+module _ (d : Dataset) (b : Base) (valid : IsDataset d) (base : IsBase d b) where
+  abbrev Rising : Node → Node → Type 0
+  Rising m n = m.made ≤ n.made
+
+  made_low : (log : List Entry) → Legal d b log → AllByRecursion (λ n. n.made < length log) (nodes_of d b log)
+  unfolding nodes_of
+  made_low [] legal = absurd legal
+  made_low (e ∷ []) legal =
+      let z : e.number ≡ 0 = number_told d b e [] legal in
+      all_more (MadeBy d b valid base (e ∷ []) e.number) (λ n. n.made < 1) (new_nodes d b (e ∷ []) e.number) (λ n m. (let q : n.made ≡ e.number = m.7 in omega arith)) (new_all d b valid base (e ∷ []) e.number)
+  made_low (e ∷ f ∷ log) legal =
+      let z : e.number ≡ length (f ∷ log) = number_told d b e (f ∷ log) legal in
+      all_append (λ n. n.made < length (e ∷ f ∷ log)) (nodes_of d b (f ∷ log)) (new_nodes d b (e ∷ f ∷ log) e.number)
+      (all_more (λ n. n.made < length (f ∷ log)) (λ n. n.made < length (e ∷ f ∷ log)) (nodes_of d b (f ∷ log)) (λ n l. omega arith) (made_low (f ∷ log) legal.1))
+      (all_more (MadeBy d b valid base (e ∷ f ∷ log) e.number) (λ n. n.made < length (e ∷ f ∷ log)) (new_nodes d b (e ∷ f ∷ log) e.number) (λ n m. (let q : n.made ≡ e.number = m.7 in omega arith)) (new_all d b valid base (e ∷ f ∷ log) e.number))
+
+  all_same : (k : ℕ) (ns : List Node) → AllByRecursion (λ n. n.made ≡ k) ns → Differ Rising ns
+  all_same k [] a = tt
+  all_same k (n ∷ ns) a = (all_more (λ m. m.made ≡ k) (Rising n) ns (λ m q. (let p : n.made ≡ k = a.0 in omega arith)) a.1, all_same k ns a.1)
+
+  news_rise : (log : List Entry) (k : ℕ) → Differ Rising (new_nodes d b log k)
+  news_rise log k = all_same k (new_nodes d b log k) (all_more (MadeBy d b valid base log k) (λ n. n.made ≡ k) (new_nodes d b log k) (λ n m. m.7) (new_all d b valid base log k))
+
+  nodes_rise : (log : List Entry) → Legal d b log → Differ Rising (nodes_of d b log)
+  unfolding nodes_of
+  nodes_rise [] legal = absurd legal
+  nodes_rise (e ∷ []) legal = news_rise (e ∷ []) e.number
+  nodes_rise (e ∷ f ∷ log) legal =
+      let z : e.number ≡ length (f ∷ log) = number_told d b e (f ∷ log) legal in
+      differ_append Rising (nodes_of d b (f ∷ log)) (new_nodes d b (e ∷ f ∷ log) e.number)
+      (nodes_rise (f ∷ log) legal.1) (news_rise (e ∷ f ∷ log) e.number)
+      (all_pairs (λ m. m.made < length (f ∷ log)) (MadeBy d b valid base (e ∷ f ∷ log) e.number) Rising (nodes_of d b (f ∷ log)) (new_nodes d b (e ∷ f ∷ log) e.number)
+      (λ m n l p. (let q : n.made ≡ e.number = p.7 in omega arith)) (made_low (f ∷ log) legal.1) (new_all d b valid base (e ∷ f ∷ log) e.number))
+
+  -- behind a node that a later entry made there is none that the first entry made
+  pub none_first : (log : List Entry) → Legal d b log → (c p : ℕ) (n : Node) → slice_get (rows_of d b log) p ≡ Some (NodeRow n) → (n.made ≡ 0 → ⊥) → filter_map (first_in c) (drop p (rows_of d b log)) ≡ []
+  unfolding first_in
+  none_first log legal c p n h z = from (drop p rows) p (omega arith) refl
+    where
+      rows : List Row
+      rows = rows_of d b log
+
+      same_node : (x y : Node) → Some (NodeRow x) ≡ Some (NodeRow y) → x ≡ y
+      same_node x y e = cc
+
+      late : (q : ℕ) (m : Node) → p ≤ q → slice_get rows q ≡ Some (NodeRow m) → m.made ≡ 0 → ⊥
+      late q m l k y = elim (eq-or-lt_of_le {n = p} {m = q} l) [
+        | inl e ↦ z (ap (λ (x : Node). x.made) (same_node n m (sym h ∙ (ap (slice_get rows) e ∙ k))) ∙ y)
+        | inr g ↦ (let r : n.made ≤ m.made = two_nodes Rising rows p q n m (subst (Differ Rising) (sym (nodes_rows d b log)) (nodes_rise log legal)) g h k in z (omega arith))
+      ]
+
+      not_first : (row : Row) → ((m : Node) → row ≡ NodeRow m → m.made ≡ 0 → ⊥) → first_in c row ≡ None
+      not_first (NodeRow m) o = cond-false (eqb m.chunk c && eqb m.made 0) (Some m.id) None (no (eqb m.chunk c) (eqb m.made 0) refl)
+        where
+          no : (s t : Bool) → eqb m.made 0 ≡ t → s && t ≡ false
+          no true true e = absurd (o m refl (eqb-true m.made 0 e))
+          no true false e = refl
+          no false t e = refl
+      not_first (HeaderRow x s k) o = refl
+      not_first (SupervoxelRow v) o = refl
+      not_first (ChunkRow k) o = refl
+      not_first (LinkRow l) o = refl
+      not_first (EdgeRow made e) o = refl
+      not_first (ChangeRow k e) o = refl
+      not_first (ItemRow i) o = refl
+      not_first (EntryRow e) o = refl
+
+      from : (rest : List Row) (q : ℕ) → p ≤ q → drop q rows ≡ rest → filter_map (first_in c) rest ≡ []
+      from [] q l e = refl
+      from (row ∷ rest) q l e =
+          let s : (slice_get rows q ≡ Some row) × (drop (q + 1) rows ≡ rest) = drop_step rows q row rest e in
+          ap (λ o. cons_option o (filter_map (first_in c) rest)) (not_first row (λ m w y. late q m l (s.0 ∙ ap (λ r. Some r) w) y)) ∙ from rest (q + 1) (omega arith) s.1
