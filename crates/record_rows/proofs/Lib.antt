@@ -27,3 +27,4 @@ pub mod StoreLemmas
 pub mod RowFacts
 pub mod Picks
 pub mod NodeOrder
+pub mod NodeIds
