@@ -3,3 +3,5 @@ pub mod ChainWalks
 pub mod VersionWalks
 pub mod NodeWalks
 pub mod ChunkWalks
+pub mod Seeks
+pub mod Sought

@@ -12,9 +12,11 @@
 #![tactic(auto)]
 
 mod chunk_nodes;
+mod finding;
 mod nodes;
 mod versions;
 
 pub use chunk_nodes::{first_node, last_node, next_node};
+pub use finding::{chunk, find};
 pub use nodes::{NodeRow, children, ended, node};
 pub use versions::{last_version, parent_at};

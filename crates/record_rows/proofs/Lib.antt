@@ -28,3 +28,4 @@ pub mod RowFacts
 pub mod Picks
 pub mod NodeOrder
 pub mod EntryRecords
+pub mod NodeIds

@@ -134,7 +134,7 @@ module _ (d : Dataset) (b : Base) (valid : IsDataset d) (base : IsBase d b) wher
   abbrev MadeIn : List Entry → ℕ → Node → Type 0
   MadeIn log l n = (c : ℕ) × Made log l c n
 
-  layer_made : (log : List Entry) (k l : ℕ) → AllByRecursion (MadeIn log l) (layer_nodes d b log k l)
+  pub layer_made : (log : List Entry) (k l : ℕ) → AllByRecursion (MadeIn log l) (layer_nodes d b log k l)
   unfolding layer_nodes
   layer_made log k l =
       all_flat (piece log k l) (MadeIn log l) (layer_chunks d b l)
