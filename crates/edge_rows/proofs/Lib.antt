@@ -5,3 +5,4 @@ pub mod FieldFacts
 pub mod Walks
 pub mod StateWalks
 pub mod Placing
+pub mod Listed
