@@ -1,0 +1,7 @@
+mod EntryWords
+mod KindCodes
+mod WalkBack
+mod TimeLemmas
+mod EntryParts
+mod ChainWalk
+mod ChangeWords

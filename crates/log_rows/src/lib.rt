@@ -10,3 +10,13 @@
 //! - `asking`: what made an entry
 //! - `changing`: which pairs an entry changed
 #![tactic(auto)]
+
+mod changing;
+mod heads;
+mod records;
+mod times;
+
+pub use changing::{all_changed, changed, first_change, next_change};
+pub use heads::{entry_spot, head, last_about, length};
+pub use records::Head;
+pub use times::{TimeRefusal, prefix_at};

@@ -1,0 +1,5 @@
+pub mod Told
+pub mod ChainWalks
+pub mod VersionWalks
+pub mod NodeWalks
+pub mod ChunkWalks

@@ -10,3 +10,11 @@
 //! - `chunk_nodes`: the nodes of a chunk
 //! - `versions`: the parents of a supervoxel or a node, entry by entry
 #![tactic(auto)]
+
+mod chunk_nodes;
+mod nodes;
+mod versions;
+
+pub use chunk_nodes::{first_node, last_node, next_node};
+pub use nodes::{NodeRow, children, ended, node};
+pub use versions::{last_version, parent_at};

@@ -11,9 +11,9 @@ use crate::chunks::{chunk, top};
 use crate::components::{firsts, least};
 use crate::lists::{ids_of, push};
 use crate::nodes::{numbered, up_to};
-use crate::ordered::ascending;
 use node_ids::NodeId;
 use op_model::{Asked, Base, ChangedPairs, Dataset, Entry, Ids};
+use ordered_ids::ascending_ids;
 use pcg_base::NoMemory;
 use std::alloc::Global;
 
@@ -70,6 +70,6 @@ pub fn first_entry(
     ensures { IfOk result (λ entry. entry ≡ first_entry dataset.now base.now at) }
 {
     let all = roots(alloc, dataset, base)?;
-    let made = ascending(alloc, all.as_slice())?;
+    let made = ascending_ids(alloc, all.as_slice())?;
     Ok(ingest(alloc, at, made))
 }

@@ -5,7 +5,7 @@
 //! operation model after the first entry alone. Each call takes time quadratic in the number of supervoxels or more: it
 //! is the body that faster ones are compared with. An octree of components is from Dorkenwald et al. 2022.
 //!
-//! - `lists`, `ordered`: lists of ids, and ascending ones.
+//! - `lists`: lists of ids.
 //! - `chunks`: the chunks of supervoxels, and what lies in them.
 //! - `growth`: the search in breadth inside a chunk.
 //! - `components`: the supervoxels of a node, and the least of them.
@@ -22,7 +22,6 @@ mod growth;
 mod laws;
 mod lists;
 mod nodes;
-mod ordered;
 mod records;
 #[cfg(test)]
 mod tests;

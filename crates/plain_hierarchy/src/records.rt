@@ -10,9 +10,9 @@ ghost use Rattle.plain_hierarchy.specs.Ingest.{ingested};
 use crate::chunks::{chunk, top};
 use crate::components::firsts;
 use crate::lists::{edges_of, ids_of, push};
-use crate::ordered::ascending;
 use node_ids::NodeId;
 use op_model::{Base, Dataset};
+use ordered_ids::ascending_ids;
 use pcg_base::NoMemory;
 use std::alloc::Global;
 
@@ -87,7 +87,7 @@ pub fn record_count(alloc: Global, dataset: &Dataset, base: &Base) -> Result<u64
     let svs = ids_of(&base.supervoxels).len() as u64;
     let edges = edges_of(&base.edges).len() as u64;
     let all = chunks(alloc, dataset, base)?;
-    let held = ascending(alloc, all.as_slice())?.len() as u64;
+    let held = ascending_ids(alloc, all.as_slice())?.len() as u64;
     let nodes = node_count(alloc, dataset, base)?;
     let roots = nodes_in(alloc, dataset, base, top(dataset))?;
     Ok(1 + svs + held + edges + nodes + (svs + nodes - roots) + 1)

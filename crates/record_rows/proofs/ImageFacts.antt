@@ -1,6 +1,5 @@
 -- What readers learn of the words of an image: where they end, and what each word that they tell is.
-use Rattle.std.proofs.Common.{◌≡◌, ℕ, ◌+◌, ◌-◌, ◌*◌, ◌<◌, ◌≤◌, ◌^◌, Bool, true, false, cond, List, [], ◌∷◌, length, take, drop, get_or, Some, refl, sym, ◌∙◌, ap, subst, arith, length-drop}
-use Rattle.std.specs.List.{slice_get}
+use Rattle.std.proofs.Common.{◌≡◌, ℕ, ◌+◌, ◌*◌, ◌<◌, ◌≤◌, ◌^◌, Bool, true, false, cond, List, [], ◌∷◌, length, take, drop, get_or, ◌∙◌, ap, arith, length-drop}
 use Rattle.std.proofs.lemmas.Option.{slice_get_within}
 use Rattle.op_model.specs.declared.Dataset.{Dataset}
 use Rattle.op_model.specs.declared.Base.{Base}
@@ -8,7 +7,7 @@ use Rattle.op_model.specs.declared.Entry.{Entry}
 use Rattle.op_model.specs.Records.{records}
 use Rattle.record_rows.specs.Rows.{Row, HeaderRow}
 use Rattle.record_rows.specs.Chains.{Aim, Nowhere, First, Next, aims}
-use Rattle.record_rows.specs.Words.{place_from, fixed_words, pointer_word, words_of}
+use Rattle.record_rows.specs.Words.{place_from, fixed_words, pointer_word}
 use Rattle.record_rows.specs.LogRows.{rows_of, chunks}
 use Rattle.record_rows.specs.Images.{told}
 use Rattle.record_rows.specs.Readings.{Image, ParentImage, Holds, place_of, first_place, next_place}

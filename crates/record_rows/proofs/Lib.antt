@@ -6,7 +6,6 @@ pub mod StoreLaw
 pub mod HeaderLemmas
 pub mod ToldLaws
 pub mod LayerIds
-pub mod LeastLemmas
 pub mod Listings
 pub mod DifferLemmas
 pub mod OnceLemmas
@@ -21,3 +20,10 @@ pub mod SumLemmas
 pub mod CountLemmas
 pub mod BaseCounts
 pub mod ImageFacts
+pub mod BaseRows
+pub mod PrefixNodes
+pub mod StoreLemmas
+pub mod RowFacts
+pub mod Picks
+pub mod NodeOrder
+pub mod EntryRecords

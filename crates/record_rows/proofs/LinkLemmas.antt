@@ -16,7 +16,7 @@ use Rattle.op_model.specs.Valid.{IsDataset, IsBase, IsSupervoxel}
 use Rattle.op_model.specs.Legal.{Legal}
 use Rattle.graph_model.proofs.Components.{component_joined, component_in}
 use Rattle.op_model.proofs.LabelLemmas.{members_in, same_component, own_component, joined_label, label_joined, label_old, new_same}
-use Rattle.record_rows.proofs.LeastLemmas.{least_component, least_new, least_member}
+use Rattle.op_model.proofs.LabelLemmas.{least_component, least_new, least_member}
 use Rattle.op_model.proofs.LegalLemmas.{labels_fit, all_has, ascending_has, map_has}
 use Rattle.record_rows.specs.Rows.{Node, Link}
 use Rattle.record_rows.specs.Versions.{child_at}

@@ -4,11 +4,22 @@
 //! A record has eight words, four fixed ones and then four pointers to other records. A `Spot` is
 //! a record's place: how many records stand before it.
 //!
+//! - `applying`: the words with a draft applied
+//! - `draft`: new records on their way into the words
 //! - `rows`: the words of one record
+//! - `searching`: the record of an id, where ids ascend
 #![tactic(auto)]
 
+mod applying;
+mod draft;
 mod rows;
+mod searching;
 mod spot;
+#[cfg(test)]
+mod tests;
 
+pub use applying::apply;
+pub use draft::{Draft, DraftLink};
 pub use rows::{fixed, kind_of, pointer};
+pub use searching::{find_sorted, supervoxel};
 pub use spot::Spot;

@@ -13,8 +13,8 @@ returns c at =
     let b = c.args.base.now in
     let log = ingested d b 0 in
     let places = flat_map (λ layer. map (chunk d layer) b.supervoxels) (layers d) in
-    let long : c.len-held.result ≡ length c.in_ok-ascending.field-0.items = search rules in
-    let held = long ∙ ap length (c.in_ok-ascending.ensures ∙ ap ascending (c.as_slice.ensures.value ∙ c.in_ok-all.ensures)) in
+    let long : c.len-held.result ≡ length c.in_ok-ascending_ids.field-0.items = search rules in
+    let held = long ∙ ap length (c.in_ok-ascending_ids.ensures ∙ ap ascending (c.as_slice.ensures.value ∙ c.in_ok-all.ensures)) in
     sum_told (length c.ids_of.result.now) c.len-held.result (length c.edges_of.result.now) c.in_ok-nodes.nodes c.in_ok-roots.roots
     (length b.supervoxels) (length (ascending places)) (length b.edges) (node_count d b log) (nodes_in d b log (top d))
     (ap length c.ids_of.ensures) held (ap length c.edges_of.ensures) c.in_ok-nodes.ensures.is (c.in_ok-roots.ensures.is ∙ ap (nodes_in d b log) c.top.ensures.is)

@@ -1,0 +1,10 @@
+use Rattle.std.proofs.Common.{◌≡◌, ℕ, ◌||◌, eqb}
+use Rattle.op_model.specs.Operations.{undoes, redoes}
+use Rattle.log_rows.proofs.WalkBack.{AllWalk}
+use Rattle.log_rows.proofs.heads.last_about.Given as goal
+
+abbrev pub invariant-loop-w : goal.invariant-loop-w
+invariant-loop-w g l = (l.w ≡ l.initial.w) × AllWalk (g.W.Words.words l.initial.w) l.spot (λ e. eqb e.number l.fn.op || undoes e.asked l.fn.op || redoes e.asked l.fn.op)
+
+abbrev pub decreases-loop-w : goal.decreases-loop-w
+decreases-loop-w g l = l.spot

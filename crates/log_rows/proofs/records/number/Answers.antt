@@ -1,0 +1,12 @@
+use Rattle.std.proofs.Common.{◌≡◌, ℕ, ◌<◌, ◌≤◌, ◌∙◌, length, arith}
+use Rattle.log_rows.proofs.EntryWords.{Tells, tells, tells_at, before_first}
+use Rattle.log_rows.proofs.records.number.Goals as goal
+
+pub fixed-requires-clause-within : goal.fixed-requires-clause-within
+fixed-requires-clause-within g c = (tells_at _ _ c.requires.entry).within
+
+pub overflow_cast-result : goal.overflow_cast-result
+overflow_cast-result g c = let t = tells_at _ _ c.requires.entry in let n = t.number in let m = t.low in let e = c.fixed.ensures.is in omega (arith, n, m, e)
+
+pub returns-clause-is : goal.returns-clause-is
+returns-clause-is g c = λ d b log e i h. c.fixed.ensures.is ∙ (tells d b log _ i _ e h).number

@@ -1,0 +1,48 @@
+use Rattle.std.proofs.Common.{◌≡◌, ◌∙◌, sym, ap, subst}
+use Rattle.record_rows.specs.Rows.{NodeRow}
+use Rattle.record_rows.specs.Chains.{node_in}
+use Rattle.record_rows.specs.LogRows.{rows_of}
+use Rattle.record_rows.specs.Readings.{next_place}
+use Rattle.parent_rows.proofs.ChainWalks.{image_kept, walk_falls, last_first, last_step, last_end}
+use Rattle.parent_rows.proofs.ChunkWalks.{chunk_node, node_header, greatest_last}
+use Rattle.parent_rows.proofs.chunk_nodes.last_node.Goals as goal
+
+pub loop-at-init : goal.loop-at-init
+loop-at-init g c = (
+  c.first_node-at.ensures.same,
+  λ d b log x i h. last_first d b log _ i (node_in x) (node_header x) (c.first_node-at.ensures.is d b log x i h),
+)
+
+pub next_node-at-requires : goal.next_node-at-requires
+next_node-at-requires g c =
+    let r = c.requires.chunk in
+    let inv = c.loop-at.invariant in
+    let n = chunk_node (rows_of r.0 r.1 r.2) r.3 c.in-Some.node c.in-Some.is (inv.1 r.0 r.1 r.2 r.3 r.4 r.5).0 in
+    record { node = (r.0, r.1, r.2, n.0, image_kept g.W.Words.words r.0 r.1 r.2 inv.0 r.4, n.1) }
+
+pub loop-at-smaller : goal.loop-at-smaller
+loop-at-smaller g c =
+    let r = c.requires.chunk in
+    let inv = c.loop-at.invariant in
+    let n = chunk_node (rows_of r.0 r.1 r.2) r.3 c.in-Some.node c.in-Some.is (inv.1 r.0 r.1 r.2 r.3 r.4 r.5).0 in
+    walk_falls r.0 r.1 r.2 _ r.4 c.in-Some.node (NodeRow n.0) n.1 (node_in n.0.chunk) c.in-Some.is
+    (c.next_node-at.ensures.is r.0 r.1 r.2 n.0 (image_kept g.W.Words.words r.0 r.1 r.2 inv.0 r.4) n.1)
+
+pub loop-at-preserved : goal.loop-at-preserved
+loop-at-preserved g c = (
+  c.next_node-at.ensures.same ∙ c.loop-at.invariant.0,
+  λ d b log x i h.
+    let inv = c.loop-at.invariant in
+    let at = inv.1 d b log x i h in
+    let n = chunk_node (rows_of d b log) x c.in-Some.node c.in-Some.is at.0 in
+    last_step (node_in x) (rows_of d b log) c.in-Some.node c.loop-at.found c.in-Some.is
+    (c.next_node-at.ensures.is d b log n.0 (image_kept g.W.Words.words d b log inv.0 i) n.1 ∙ ap (λ y. next_place (node_in y) (rows_of d b log) c.in-Some.node) n.2)
+    at,
+)
+
+pub returns-clause-is : goal.returns-clause-is
+returns-clause-is g c = λ d b log x i h. last_end (node_in x) (rows_of d b log) c.loop-at.at c.loop-at.found c.in_default.not-Some (c.loop-at.invariant.1 d b log x i h)
+
+pub returns-clause-greatest : goal.returns-clause-greatest
+returns-clause-greatest g c = λ d b log x i h.
+    greatest_last d b i.dataset i.base log x (last_end (node_in x) (rows_of d b log) c.loop-at.at c.loop-at.found c.in_default.not-Some (c.loop-at.invariant.1 d b log x i h))
