@@ -6,3 +6,4 @@ pub mod Walks
 pub mod StateWalks
 pub mod Placing
 pub mod Listed
+pub mod Narrow

@@ -18,6 +18,6 @@ mod inserting;
 mod listing;
 mod states;
 
-pub use finding::{last_change, last_edge};
+pub use finding::{find_edge, last_change, last_edge};
 pub use listing::edges_of;
 pub use states::state_at;
