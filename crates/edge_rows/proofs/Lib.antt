@@ -5,3 +5,5 @@ pub mod FieldFacts
 pub mod Walks
 pub mod StateWalks
 pub mod Placing
+pub mod Listed
+pub mod Narrow

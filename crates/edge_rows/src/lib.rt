@@ -15,7 +15,9 @@ mod chains;
 mod fields;
 mod finding;
 mod inserting;
+mod listing;
 mod states;
 
-pub use finding::{last_change, last_edge};
+pub use finding::{find_edge, last_change, last_edge};
+pub use listing::edges_of;
 pub use states::state_at;
