@@ -1,7 +1,7 @@
 -- What an entry's own records tell, gathered from all records of a log.
-use Rattle.std.proofs.Common.{◌≡◌, ◌≢◌, ℕ, ◌+◌, ◌<◌, ◌≤◌, Bool, true, false, cond, eqb, List, [], ◌∷◌, ◌++◌, length, map, Option, Some, None, refl, sym, ◌∙◌, ap, subst, arith, append-nil}
+use Rattle.std.proofs.Common.{◌≡◌, ◌≢◌, ℕ, ◌+◌, ◌<◌, ◌≤◌, Bool, true, false, cond, eqb, List, [], ◌∷◌, ◌++◌, length, map, Option, Some, None, refl, sym, ◌∙◌, ap, subst, arith, append-nil, length-append}
 use Rattle.std.specs.List.{AllByRecursion, filter_map, cons_option, find}
-use Rattle.std.proofs.lemmas.Bool.{eqb-true, ne_eqb}
+use Rattle.std.proofs.lemmas.Bool.{eqb-true, eq-eqb, ne_eqb}
 use Rattle.std.proofs.lemmas.List.Elements.{filter_map-append}
 use Rattle.op_model.specs.declared.Dataset.{Dataset}
 use Rattle.op_model.specs.declared.Base.{Base}
@@ -9,6 +9,7 @@ use Rattle.op_model.specs.declared.Edge.{Edge}
 use Rattle.op_model.specs.declared.Entry.{Entry}
 use Rattle.op_model.specs.Operations.{entry_at}
 use Rattle.op_model.specs.Legal.{Legal}
+use Rattle.op_model.proofs.HistoryLemmas.{legal_prefix}
 use Rattle.record_rows.specs.Rows.{Row, HeaderRow, SupervoxelRow, ChunkRow, NodeRow, LinkRow, EdgeRow, ChangeRow, ItemRow, EntryRow, Node, Link}
 use Rattle.record_rows.specs.Chains.{change_in, item_in}
 use Rattle.record_rows.specs.LogRows.{marks, chunks, new_edges, new_nodes, new_links, entry_rows, base_rows, rows_of}
@@ -105,3 +106,19 @@ number_found (e ∷ log) n x h = go (eqb e.number n) refl h (number_found log n 
     go : (t : Bool) → eqb e.number n ≡ t → cond t (Some e) (find (λ y. eqb y.number n) log) ≡ Some x → (find (λ y. eqb y.number n) log ≡ Some x → x.number ≡ n) → x.number ≡ n
     go true q k ih = let m : e ≡ x = cc in sym (ap (λ y. y.number) m) ∙ eqb-true e.number n q
     go false q k ih = ih k
+
+-- an entry of a legal log is found by its number
+pub found_again : (d : Dataset) (b : Base) (newer : List Entry) (e : Entry) (older : List Entry) → Legal d b (newer ++ e ∷ older) → entry_at (newer ++ e ∷ older) e.number ≡ Some e
+unfolding entry_at
+found_again d b [] e older legal = let q : eqb e.number e.number ≡ true = eq-eqb e.number e.number refl in rw q refl
+found_again d b (f ∷ newer) e older legal =
+    let whole : List Entry = newer ++ e ∷ older in
+    let m : f.number ≡ length whole = number_told d b f whole legal in
+    let n : e.number ≡ length older = number_told d b e older (legal_prefix d b (f ∷ newer) e older legal) in
+    let l : length whole ≡ length newer + length (e ∷ older) = length-append newer (e ∷ older) in
+    let q : eqb f.number e.number ≡ false = ne_eqb f.number e.number (λ s. absurd (let k : f.number ≡ e.number = s in omega arith)) in
+    rw q (found_again d b newer e older (older_legal f newer e older legal))
+  where
+    older_legal : (f : Entry) (newer : List Entry) (e : Entry) (log : List Entry) → Legal d b (f ∷ (newer ++ e ∷ log)) → Legal d b (newer ++ e ∷ log)
+    older_legal f [] e log legal = legal.1
+    older_legal f (g ∷ newer) e log legal = legal.1

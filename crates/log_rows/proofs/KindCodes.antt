@@ -1,6 +1,7 @@
 -- What the code of an entry's kind stands for, and what the first word of an entry's record is made of.
-use Rattle.std.proofs.Common.{◌≡◌, ℕ, ◌+◌, ◌*◌, ◌/◌, ◌%◌, ◌^◌, ◌<◌, ◌≤◌, Bool, true, false, cond, ◌||◌, eqb, refl, sym, ◌∙◌, ap, inl, inr, ◌⊎◌, arith}
+use Rattle.std.proofs.Common.{◌≡◌, ℕ, ◌+◌, ◌*◌, ◌/◌, ◌%◌, ◌^◌, ◌<◌, ◌≤◌, Bool, true, false, cond, ◌||◌, eqb, List, refl, sym, ◌∙◌, ap, inl, inr, ◌⊎◌, arith}
 use Rattle.std.proofs.lemmas.Bool.{ne_eqb}
+use Rattle.op_model.specs.declared.AskedPair.{AskedPair}
 use Rattle.op_model.specs.declared.Edit.TheVariants.{Merge, Split, Undo, Redo}
 use Rattle.op_model.specs.declared.Asked.{Asked}
 use Rattle.op_model.specs.declared.Asked.TheVariants as asked
@@ -81,3 +82,43 @@ unturned (asked.Edit (Merge pairs)) op u r = refl
 unturned (asked.Edit (Split sources sinks)) op u r = refl
 unturned (asked.Edit (Undo n)) op u r = absurd (u refl)
 unturned (asked.Edit (Redo n)) op u r = absurd (r refl)
+
+pub ingest_asked : (a : Asked) → kind_of a ≡ kind.Ingest → asked.Ingest ≡ a
+unfolding kind_of
+ingest_asked asked.Ingest e = refl
+ingest_asked (asked.Edit (Merge pairs)) e = cc
+ingest_asked (asked.Edit (Split sources sinks)) e = cc
+ingest_asked (asked.Edit (Undo n)) e = cc
+ingest_asked (asked.Edit (Redo n)) e = cc
+
+pub merge_asked : (a : Asked) → kind_of a ≡ kind.Merge → (pairs : List AskedPair) × (a ≡ asked.Edit (Merge pairs))
+unfolding kind_of
+merge_asked asked.Ingest e = cc
+merge_asked (asked.Edit (Merge pairs)) e = (pairs, refl)
+merge_asked (asked.Edit (Split sources sinks)) e = cc
+merge_asked (asked.Edit (Undo n)) e = cc
+merge_asked (asked.Edit (Redo n)) e = cc
+
+pub split_asked : (a : Asked) → kind_of a ≡ kind.Split → (sources : List ℕ) × (sinks : List ℕ) × (a ≡ asked.Edit (Split sources sinks))
+unfolding kind_of
+split_asked asked.Ingest e = cc
+split_asked (asked.Edit (Merge pairs)) e = cc
+split_asked (asked.Edit (Split sources sinks)) e = (sources, sinks, refl)
+split_asked (asked.Edit (Undo n)) e = cc
+split_asked (asked.Edit (Redo n)) e = cc
+
+pub undo_asked : (a : Asked) → kind_of a ≡ kind.Undo → asked.Edit (Undo (names a)) ≡ a
+unfolding kind_of names
+undo_asked asked.Ingest e = cc
+undo_asked (asked.Edit (Merge pairs)) e = cc
+undo_asked (asked.Edit (Split sources sinks)) e = cc
+undo_asked (asked.Edit (Undo n)) e = refl
+undo_asked (asked.Edit (Redo n)) e = cc
+
+pub redo_asked : (a : Asked) → kind_of a ≡ kind.Redo → asked.Edit (Redo (names a)) ≡ a
+unfolding kind_of names
+redo_asked asked.Ingest e = cc
+redo_asked (asked.Edit (Merge pairs)) e = cc
+redo_asked (asked.Edit (Split sources sinks)) e = cc
+redo_asked (asked.Edit (Undo n)) e = cc
+redo_asked (asked.Edit (Redo n)) e = refl

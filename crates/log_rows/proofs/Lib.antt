@@ -5,3 +5,4 @@ mod TimeLemmas
 mod EntryParts
 mod ChainWalk
 mod ChangeWords
+mod ItemWords
