@@ -1,6 +1,6 @@
 //! The roots of the ingest: the nodes of the top layer's one chunk that the first entry made.
 
-ghost use Rattle.std.specs.Prelude.{◌≡◌, ℕ, [], ◌∷◌, ◌++◌, List, OnOk, IfOk};
+ghost use Rattle.std.specs.Prelude.{◌≡◌, ℕ, [], ◌∷◌, ◌++◌, List, Some, OnOk, IfOk, IfSome};
 ghost use Rattle.std.specs.List.{filter_map};
 ghost use Rattle.op_model.specs.declared.Dataset.{Dataset};
 ghost use Rattle.op_model.specs.declared.Base.{Base};
@@ -13,11 +13,12 @@ ghost use Rattle.record_rows.specs.Readings.{HoldsChunk, HoldsNode, ParentImage}
 ghost use Rattle.record_rows.specs.Walks.{first_in};
 ghost use Rattle.timestamp_reader.specs.Places.{FirstNodeAt, NodeAt, first_from};
 
+use crate::nodes::top_of;
 use node_ids::{NodeId, Parts};
 use op_model::Ids;
 use parent_rows::{chunk, first_node, next_node, node};
 use pcg_base::{NoMemory, Words};
-use record_rows::{grid_of, layout_of};
+use record_rows::layout_of;
 use row_words::{Spot, fixed};
 use std::alloc::Global;
 
@@ -40,10 +41,16 @@ fn top_chunk<W: Words>(w: &mut W) -> NodeId
     ensures same { w.new ≡ w.old }
     ensures is { (d : Dataset) (b : Base) (log : List Entry) → ParentImage d b log (W.words w.old) → result ≡ id_of d.layout (record { layer = top d; x = 0; y = 0; z = 0; segment = 0 }) }
 {
-    let layout = layout_of(fixed(w, Spot(0), 0));
-    let layer = grid_of(fixed(w, Spot(0), 1)).top_layer();
-    let parts = Parts { layer, x: 0, y: 0, z: 0, segment: 0 };
-    layout.pack(parts).unwrap()
+    let layer = top_of(w);
+    let word = fixed(w, Spot(0), 0);
+    let parts = Parts {
+        layer,
+        x: 0,
+        y: 0,
+        z: 0,
+        segment: 0,
+    };
+    layout_of(word).pack(parts).unwrap()
 }
 
 /// The nodes of a chunk that the first entry made, in the order of their records.
@@ -81,6 +88,7 @@ fn if_first<W: Words>(w: &mut W, at: Option<Spot>) -> Option<Spot>
     requires node { (d : Dataset) × (b : Base) × (log : List Entry) × (c : ℕ) × ParentImage d b log (W.words w.old) × NodeAt d b log c at }
     ensures same { w.new ≡ w.old }
     ensures at { (d : Dataset) (b : Base) (log : List Entry) (c : ℕ) → ParentImage d b log (W.words w.old) → NodeAt d b log c at → FirstNodeAt d b log c result }
+    ensures same_place { IfSome result (λ p. at ≡ Some p) }
     ensures rest { (d : Dataset) (b : Base) (log : List Entry) (c : ℕ) → ParentImage d b log (W.words w.old) → NodeAt d b log c at → first_from d b log c result ≡ first_from d b log c at }
 {
     let Some(spot) = at else {
