@@ -1,2 +1,3 @@
 pub mod Repeated
 pub mod LevelLemmas
+pub mod StepLemmas

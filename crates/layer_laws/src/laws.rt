@@ -1,8 +1,18 @@
 //! Laws over the definitions, each the contract of a function that does nothing. They are written out in `specs/Laws.antt`.
 
-ghost use Rattle.layer_laws.specs.Laws.{ChunksNest};
+ghost use Rattle.layer_laws.specs.Laws.{ChunksNest, ComponentsNest, LayersContract};
 
 /// The chunks of a layer lie in those of the next, and the level of two supervoxels tells in which layers they lie in one chunk.
 pub fn chunks_nest()
     ensures { ChunksNest }
+{}
+
+/// A component is one of whole components of each layer below.
+pub fn components_nest()
+    ensures { ComponentsNest }
+{}
+
+/// A layer joins what the layer below joined, and the active pairs whose level it is.
+pub fn layers_contract()
+    ensures { LayersContract }
 {}
