@@ -1,3 +1,4 @@
 pub mod Repeated
 pub mod LevelLemmas
 pub mod StepLemmas
+pub mod NumberLemmas

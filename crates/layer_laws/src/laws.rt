@@ -1,6 +1,6 @@
 //! Laws over the definitions, each the contract of a function that does nothing. They are written out in `specs/Laws.antt`.
 
-ghost use Rattle.layer_laws.specs.Laws.{ChunksNest, ComponentsNest, LayersContract};
+ghost use Rattle.layer_laws.specs.Laws.{ChunksNest, ComponentsNest, LayersContract, NumbersContract};
 
 /// The chunks of a layer lie in those of the next, and the level of two supervoxels tells in which layers they lie in one chunk.
 pub fn chunks_nest()
@@ -15,4 +15,9 @@ pub fn components_nest()
 /// A layer joins what the layer below joined, and the active pairs whose level it is.
 pub fn layers_contract()
     ensures { LayersContract }
+{}
+
+/// Where the nodes of the layer below have numbers, the pairs of numbers that active pairs give make the nodes of the layer.
+pub fn numbers_contract()
+    ensures { NumbersContract }
 {}
