@@ -12,18 +12,10 @@ use Rattle.op_model.specs.Chunks.{members}
 use Rattle.op_model.specs.Labels.{Joined}
 use Rattle.graph_model.proofs.Components.{Joined_one}
 use Rattle.components.specs.Joining.{meet}
+use Rattle.components.proofs.Least.{has_below}
 use Rattle.op_model.proofs.LabelLemmas.{in_members, members_in}
 use Rattle.layer_laws.specs.Levels.{meets, steps, IsClosed, IsNumbered}
 use Rattle.layer_laws.proofs.StepLemmas.{Joined_cons, along, steps_cases, join_steps, all_steps, leaves_above, meets_joined, joined_sym, joined_trans, joined_known}
-
-pub has_range : (n a i : ℕ) → a ≤ i → i < a + n → has (range_with_len a n) i ≡ true
-has_range zero a i low high = absurd (omega arith)
-has_range (suc n) a i low high =
-    elim (cases_order a i) [
-      | inl e ↦ or_left (eqb a i) _ (eq-eqb a i e)
-      | inr (inl l) ↦ or_right (eqb a i) _ (has_range n (a + 1) i (omega arith) (omega arith))
-      | inr (inr g) ↦ absurd (omega arith)
-    ]
 
 -- what meets is one of the pairs, in either order
 pub met : (P : ℕ × ℕ → Type 0) (pairs : List (ℕ × ℕ)) → AllByRecursion P pairs → (i j : ℕ) → meet pairs i j ≡ true → P (i, j) ⊎ P (j, i)
@@ -76,7 +68,7 @@ module _ (d : Dataset) (b : Base) (is : IsLayout d.layout) (log : List Entry) (l
 
   module _ (found : List ℕ) (closed : IsClosed d b log l found) (n : ℕ) (number : ℕ → ℕ) (pairs : List (ℕ × ℕ)) (numbered : IsNumbered d b log l found n number pairs) where
     vertex : (x : ℕ) → has found x ≡ true → has (range_with_len 0 n) (number x) ≡ true
-    vertex x h = let s = numbered.small x h in has_range n 0 (number x) (omega arith) (omega arith)
+    vertex x h = let s = numbered.small x h in has_below n (number x) (omega arith)
 
     forth : (u v : ℕ) → JoinedBy (steps d b log l) b.supervoxels u v → has found u ≡ true → JoinedBy (meet pairs) (range_with_len 0 n) (number u) (number v)
     forth u v j =

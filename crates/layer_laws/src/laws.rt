@@ -1,6 +1,6 @@
 //! Laws over the definitions, each the contract of a function that does nothing. They are written out in `specs/Laws.antt`.
 
-ghost use Rattle.layer_laws.specs.Laws.{ChunksNest, ComponentsNest, LayersContract, NumbersContract};
+ghost use Rattle.layer_laws.specs.Laws.{ChunksNest, ComponentsNest, LayersContract, LeastLeavesRise, NumbersContract, NumbersInOrder};
 
 /// The chunks of a layer lie in those of the next, and the level of two supervoxels tells in which layers they lie in one chunk.
 pub fn chunks_nest()
@@ -20,4 +20,14 @@ pub fn layers_contract()
 /// Where the nodes of the layer below have numbers, the pairs of numbers that active pairs give make the nodes of the layer.
 pub fn numbers_contract()
     ensures { NumbersContract }
+{}
+
+/// The least leaves of a layer's nodes come from those of the layer below by the components of the pairs that meet in it.
+pub fn least_leaves_rise()
+    ensures { LeastLeavesRise }
+{}
+
+/// New nodes have the next numbers of their chunk, in the order of their least leaf.
+pub fn numbers_in_order()
+    ensures { NumbersInOrder }
 {}
