@@ -5,3 +5,7 @@ pub mod NumberLemmas
 pub mod OrderLemmas
 pub mod PlaceLemmas
 pub mod BuildLemmas
+pub mod RemakeLemmas
+pub mod RiseLemmas
+pub mod NodesLemmas
+pub mod FirstsLemmas
