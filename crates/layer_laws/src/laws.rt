@@ -1,5 +1,6 @@
 //! Laws over the definitions, each the contract of a function that does nothing. They are written out in `specs/Laws.antt`.
 
+ghost use Rattle.layer_laws.specs.Worked.{WorkedLayers};
 ghost use Rattle.layer_laws.specs.Laws.{ChunksNest, ComponentsNest, EdgesRise, FirstsAreFound, FoundNodesMake, LayersContract, LeastLeavesRise, NumbersContract, NumbersInOrder, OthersStay, SearchesRemake};
 
 /// The chunks of a layer lie in those of the next, and the level of two supervoxels tells in which layers they lie in one chunk.
@@ -55,4 +56,9 @@ pub fn edges_rise()
 /// Found nodes of a layer, with the pairs that edges of the next level give, make the nodes of the next.
 pub fn found_nodes_make()
     ensures { FoundNodesMake }
+{}
+
+/// Layers of a small log that were worked out by hand.
+pub fn worked_layers()
+    ensures { WorkedLayers }
 {}
