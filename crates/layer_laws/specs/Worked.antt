@@ -1,5 +1,5 @@
 -- A worked example: four chunks in a row with a supervoxel each, the first three joined, then a merge of the last two.
-use Rattle.std.specs.Prelude.{◌≡◌, ℕ, Bool, true, false, List, [], ◌∷◌}
+use Rattle.std.specs.Prelude.{◌≡◌, ℕ, true, false, List, [], ◌∷◌}
 use Rattle.op_model.specs.declared.Dataset.{Dataset}
 use Rattle.op_model.specs.declared.Base.{Base}
 use Rattle.op_model.specs.declared.Changed.{Changed}
