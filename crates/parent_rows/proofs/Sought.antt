@@ -147,7 +147,6 @@ module _ (d : Dataset) (b : Base) (log : List Entry) (words : List ℕ) (i : Par
           let t : eqb c c ≡ false = none_found (is_chunk c) (λ dd m n. refl) e o s.0 (ChunkRow c) h in
           absurd (true≢false (sym (eq-eqb c c refl) ∙ t))
 
-
 -- a segment is no more than its id
 pub segment_low : (f : LayoutForm) (id : ℕ) → (parts_of f id).segment ≤ id
 unfolding parts_of parts_over

@@ -107,6 +107,7 @@ parent_step d b log words i id prefix p l before h e {at = at} {next = next} {fo
   where
     node_header : (x : ℕ) → NoHeader (is_node x)
     node_header x dd m k = refl
+
 pub later_below : (rows : List Row) (l : Link) (prefix : ℕ) (found : Option ℕ) → l.entry < prefix → later_parent rows l prefix found ≡ first_place (is_node l.parent) rows
 unfolding later_parent
 later_below rows l prefix found h = rw (lt-ltb l.entry prefix h) refl

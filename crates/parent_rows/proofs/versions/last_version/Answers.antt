@@ -33,12 +33,12 @@ pub loop-at-preserved : goal.loop-at-preserved
 loop-at-preserved g c = (
   c.next_version-at.ensures.same ∙ c.loop-at.invariant.0,
   λ d b log id i h.
-    let inv = c.loop-at.invariant in
-    let at = inv.1 d b log id i h in
-    let l = version_link (rows_of d b log) id c.in-Some.link c.in-Some.is at.0 in
-    last_step (version_of id) (rows_of d b log) c.in-Some.link c.loop-at.found c.in-Some.is
-    (c.next_version-at.ensures.is d b log l.0 (image_kept g.W.Words.words d b log inv.0 i) l.1 ∙ ap (λ x. next_place (version_of x) (rows_of d b log) c.in-Some.link) l.2)
-    at,
+      let inv = c.loop-at.invariant in
+      let at = inv.1 d b log id i h in
+      let l = version_link (rows_of d b log) id c.in-Some.link c.in-Some.is at.0 in
+      last_step (version_of id) (rows_of d b log) c.in-Some.link c.loop-at.found c.in-Some.is
+      (c.next_version-at.ensures.is d b log l.0 (image_kept g.W.Words.words d b log inv.0 i) l.1 ∙ ap (λ x. next_place (version_of x) (rows_of d b log) c.in-Some.link) l.2)
+      at,
 )
 
 pub returns-clause-same : goal.returns-clause-same

@@ -42,13 +42,13 @@ pub loop-at-preserved : goal.loop-at-preserved
 loop-at-preserved g c = (
   c.next_version-at.ensures.same ∙ (c.later-found.ensures.same ∙ c.loop-at.invariant.0),
   λ d b log id i h.
-    let inv = c.loop-at.invariant in
-    let at = inv.1 d b log id i h in
-    let l = version_link (rows_of d b log) id c.in-Some.link c.in-Some.is at.0 in
-    parent_step d b log _ i id c.args.prefix c.in-Some.link l.0 c.loop-at.found l.1 l.2 c.in-Some.is
-    (c.next_version-at.ensures.is d b log l.0 (image_kept g.W.Words.words d b log (c.later-found.ensures.same ∙ inv.0) i) l.1)
-    (c.later-found.ensures.is d b log l.0 (image_kept g.W.Words.words d b log inv.0 i) l.1)
-    at,
+      let inv = c.loop-at.invariant in
+      let at = inv.1 d b log id i h in
+      let l = version_link (rows_of d b log) id c.in-Some.link c.in-Some.is at.0 in
+      parent_step d b log _ i id c.args.prefix c.in-Some.link l.0 c.loop-at.found l.1 l.2 c.in-Some.is
+      (c.next_version-at.ensures.is d b log l.0 (image_kept g.W.Words.words d b log (c.later-found.ensures.same ∙ inv.0) i) l.1)
+      (c.later-found.ensures.is d b log l.0 (image_kept g.W.Words.words d b log inv.0 i) l.1)
+      at,
 )
 
 pub returns-clause-same : goal.returns-clause-same
