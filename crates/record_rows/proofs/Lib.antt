@@ -27,4 +27,5 @@ pub mod StoreLemmas
 pub mod RowFacts
 pub mod Picks
 pub mod NodeOrder
+pub mod ChildOrder
 pub mod NodeIds

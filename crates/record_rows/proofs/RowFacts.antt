@@ -1,5 +1,5 @@
 -- What holds of each record of a log, kind by kind: a link's parent has a record, and numbers of entries are below the log's length.
-use Rattle.std.proofs.Common.{◌≡◌, ℕ, zero, suc, ◌+◌, ◌<◌, ◌≤◌, Bool, true, false, ◌||◌, eqb, List, [], ◌∷◌, ◌++◌, length, map, Some, refl, sym, ◌∙◌, ap, subst, inl, inr, eq-eqb, arith, length-append}
+use Rattle.std.proofs.Common.{◌≡◌, ℕ, zero, suc, ◌<◌, ◌≤◌, Bool, true, eqb, List, [], ◌∷◌, ◌++◌, length, map, Some, refl, ap, subst, inl, inr, eq-eqb, arith, length-append}
 use Rattle.std.specs.List.{AllByRecursion, slice_get, list_any, flat_map}
 use Rattle.std.proofs.lemmas.Bool.{false≢true, or_left, or_right, or_cases}
 use Rattle.op_model.specs.declared.Dataset.{Dataset}

@@ -1,4 +1,4 @@
-use Rattle.std.proofs.Common.{◌≡◌, ◌∙◌, sym, ap, subst}
+use Rattle.std.proofs.Common.{◌∙◌, ap}
 use Rattle.record_rows.specs.Rows.{NodeRow}
 use Rattle.record_rows.specs.Chains.{node_in}
 use Rattle.record_rows.specs.LogRows.{rows_of}

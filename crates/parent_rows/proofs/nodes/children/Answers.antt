@@ -1,9 +1,9 @@
-use Rattle.std.proofs.Common.{◌≡◌, ◌∙◌, ◌++◌, ◌∷◌, [], sym, ap, subst}
+use Rattle.std.proofs.Common.{◌∙◌, ◌++◌, ◌∷◌, [], sym, ap, subst}
 use Rattle.op_model.specs.Valid.{IsAscending}
 use Rattle.record_rows.specs.Rows.{LinkRow}
 use Rattle.record_rows.specs.Chains.{child_of}
 use Rattle.record_rows.specs.LogRows.{rows_of}
-use Rattle.record_rows.proofs.NodeOrder.{children_ascend}
+use Rattle.record_rows.proofs.ChildOrder.{children_ascend}
 use Rattle.parent_rows.proofs.ChainWalks.{image_kept, walk_falls}
 use Rattle.parent_rows.proofs.NodeWalks.{AtChild, child_link, child_first, child_step, child_end}
 use Rattle.parent_rows.proofs.nodes.children.Goals as goal

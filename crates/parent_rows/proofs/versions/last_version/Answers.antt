@@ -1,9 +1,9 @@
-use Rattle.std.proofs.Common.{◌≡◌, ◌∙◌, List, sym, ap}
+use Rattle.std.proofs.Common.{◌∙◌, ap}
 use Rattle.record_rows.specs.Rows.{LinkRow}
 use Rattle.record_rows.specs.Chains.{version_of}
 use Rattle.record_rows.specs.LogRows.{rows_of}
 use Rattle.record_rows.specs.Readings.{next_place}
-use Rattle.parent_rows.proofs.ChainWalks.{AtLast, image_kept, walk_falls, last_first, last_step, last_end}
+use Rattle.parent_rows.proofs.ChainWalks.{image_kept, walk_falls, last_first, last_step, last_end}
 use Rattle.parent_rows.proofs.VersionWalks.{version_link, version_header}
 use Rattle.parent_rows.proofs.versions.last_version.Goals as goal
 

@@ -1,10 +1,9 @@
-use Rattle.std.proofs.Common.{◌≡◌, ◌∙◌, List, sym}
+use Rattle.std.proofs.Common.{◌∙◌}
 use Rattle.record_rows.specs.Rows.{LinkRow}
 use Rattle.record_rows.specs.Chains.{version_of}
 use Rattle.record_rows.specs.LogRows.{rows_of}
-use Rattle.record_rows.specs.Readings.{next_place}
 use Rattle.parent_rows.proofs.ChainWalks.{image_kept, walk_falls}
-use Rattle.parent_rows.proofs.VersionWalks.{AtParent, version_link, parent_first, parent_step, parent_end}
+use Rattle.parent_rows.proofs.VersionWalks.{version_link, parent_first, parent_step, parent_end}
 use Rattle.parent_rows.proofs.versions.parent_at.Goals as goal
 
 pub loop-at-init : goal.loop-at-init
