@@ -1,5 +1,5 @@
 -- A record looked for along a chain that it belongs to.
-use Rattle.std.proofs.Common.{◌≡◌, ℕ, zero, suc, ◌+◌, ◌-◌, ◌<◌, ◌≤◌, Bool, true, false, cond, ◌&&◌, eqb, List, [], ◌∷◌, length, drop, Option, Some, None, refl, sym, ◌∙◌, ap, subst, inl, inr, arith, eq-eqb}
+use Rattle.std.proofs.Common.{◌≡◌, ℕ, zero, suc, ◌+◌, ◌-◌, ◌<◌, ◌≤◌, Bool, true, false, cond, eqb, List, [], ◌∷◌, length, drop, Option, Some, None, refl, sym, ◌∙◌, ap, subst, arith, eq-eqb}
 use Rattle.std.specs.List.{slice_get}
 use Rattle.std.proofs.lemmas.Bool.{false≢true, eqb-true, ne_eqb, and_parts, and_from}
 use Rattle.op_model.specs.declared.Dataset.{Dataset}
@@ -14,8 +14,7 @@ use Rattle.record_rows.specs.Readings.{ParentImage, HoldsNode, place_of, first_p
 use Rattle.record_rows.proofs.ImageFacts.{header}
 use Rattle.record_rows.proofs.WalkLemmas.{LeadsTo, Behind, place_of-some, from_here, first_leads, next_leads, next_behind}
 use Rattle.parent_rows.specs.Steps.{is_node_of}
-use Rattle.parent_rows.proofs.ChainWalks.{NoHeader}
-use Rattle.parent_rows.proofs.ChunkWalks.{node_header, chunk_node, ordered_le}
+use Rattle.parent_rows.proofs.ChunkWalks.{node_header, ordered_le}
 
 -- the place of the first record from one on that passes the test
 unfoldable pub seek : (Row → Bool) → List Row → Option ℕ → Option ℕ

@@ -14,6 +14,8 @@
 mod chunk_nodes;
 mod finding;
 mod nodes;
+#[cfg(test)]
+mod tests;
 mod versions;
 
 pub use chunk_nodes::{first_node, last_node, next_node};

@@ -1,13 +1,13 @@
 -- What ids tell of their records: a node's id tells its chunk, whose record stands in the base, and only a supervoxel's id has layer 1.
-use Rattle.std.proofs.Common.{◌≡◌, ℕ, zero, suc, ◌+◌, ◌-◌, ◌*◌, ◌/◌, ◌%◌, ◌^◌, ◌<◌, ◌≤◌, Bool, true, false, eqb, List, [], ◌∷◌, ◌++◌, length, get_or, Some, refl, sym, ◌∙◌, ap, subst, inl, inr, arith}
-use Rattle.std.specs.List.{AllByRecursion, slice_get, flat_map}
+use Rattle.std.proofs.Common.{◌≡◌, ℕ, suc, ◌+◌, ◌-◌, ◌*◌, ◌/◌, ◌%◌, ◌^◌, ◌<◌, ◌≤◌, true, List, [], ◌∷◌, length, get_or, sym, ◌∙◌, ap, subst, inl, inr, arith}
+use Rattle.std.specs.List.{AllByRecursion, flat_map}
 use Rattle.std.proofs.lemmas.Bool.{or_left, or_right}
 use Rattle.std.proofs.lemmas.Nat.{mod-mul-add}
-use Rattle.node_ids.specs.Ids.{width, segments, parts_of, parts_over}
+use Rattle.node_ids.specs.Ids.{segments, parts_of, parts_over}
 use Rattle.node_ids.proofs.IdLemmas.{width_low}
 use Rattle.graph_model.specs.Lists.{has}
 use Rattle.graph_model.proofs.Computed.{has_append}
-use Rattle.graph_model.proofs.ListLemmas.{has_cases, has_none, has_head, has_tail}
+use Rattle.graph_model.proofs.ListLemmas.{has_cases, has_none}
 use Rattle.op_model.specs.declared.Dataset.{Dataset}
 use Rattle.op_model.specs.declared.Base.{Base}
 use Rattle.op_model.specs.declared.Entry.{Entry}
@@ -17,7 +17,7 @@ use Rattle.op_model.specs.Valid.{IsDataset, IsBase, IsSupervoxel}
 use Rattle.op_model.specs.Legal.{Legal}
 use Rattle.op_model.proofs.LegalLemmas.{labels_fit, all_has, ascending_has, map_has}
 use Rattle.op_model.proofs.NodeLemmas.{chunk_multiple}
-use Rattle.record_rows.specs.Rows.{Row, SupervoxelRow, NodeRow, Node}
+use Rattle.record_rows.specs.Rows.{SupervoxelRow, Node}
 use Rattle.record_rows.specs.LogRows.{layer_chunks, chunks, layer_nodes, new_nodes, rows_of}
 use Rattle.record_rows.specs.Readings.{ParentImage, Holds, HoldsNode, HoldsChunk}
 use Rattle.record_rows.proofs.BaseRows.{chunk_at_place, supervoxel_known}
@@ -25,7 +25,7 @@ use Rattle.record_rows.proofs.DifferLemmas.{all_append, all_more, all_flat}
 use Rattle.record_rows.proofs.LayerIds.{layer_told}
 use Rattle.record_rows.proofs.LinkLemmas.{layer_down}
 use Rattle.record_rows.proofs.Listings.{nodes_of}
-use Rattle.record_rows.proofs.NodeOrder.{layer_made, node_of, node_all, nodes_rows}
+use Rattle.record_rows.proofs.NodeOrder.{layer_made, node_all, nodes_rows}
 use Rattle.record_rows.proofs.OnceLemmas.{layers_low}
 
 -- a number of a list stands at some place of it

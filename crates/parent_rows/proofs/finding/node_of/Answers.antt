@@ -1,4 +1,4 @@
-use Rattle.std.proofs.Common.{◌≡◌, ◌∙◌, ◌<◌, sym, ap, subst}
+use Rattle.std.proofs.Common.{◌∙◌, ◌<◌, sym, subst}
 use Rattle.record_rows.specs.Rows.{NodeRow}
 use Rattle.record_rows.specs.Chains.{node_in}
 use Rattle.record_rows.specs.LogRows.{rows_of}
@@ -55,13 +55,13 @@ pub loop-at-preserved : goal.loop-at-preserved
 loop-at-preserved g c = (
   c.next_node-at.ensures.same ∙ (c.id_of-here.ensures.same ∙ c.loop-at.invariant.0),
   λ d b log x i h.
-    let inv = c.loop-at.invariant in
-    let at = inv.1 d b log x i h in
-    let n = chunk_node (rows_of d b log) x c.in-Some.spot c.in-Some.is at.0 in
-    let id = c.id_of-here.ensures.is d b log n.0 (image_kept g.W.Words.words d b log inv.0 i) n.1 in
-    node_step (rows_of d b log) x c.args.id c.in-Some.spot n.0 (n.1, n.2) (λ e. c.if-here-id.false (id ∙ e)) c.in-Some.is
-    (c.next_node-at.ensures.is d b log n.0 (image_kept g.W.Words.words d b log (c.id_of-here.ensures.same ∙ inv.0) i) n.1)
-    at,
+      let inv = c.loop-at.invariant in
+      let at = inv.1 d b log x i h in
+      let n = chunk_node (rows_of d b log) x c.in-Some.spot c.in-Some.is at.0 in
+      let id = c.id_of-here.ensures.is d b log n.0 (image_kept g.W.Words.words d b log inv.0 i) n.1 in
+      node_step (rows_of d b log) x c.args.id c.in-Some.spot n.0 (n.1, n.2) (λ e. c.if-here-id.false (id ∙ e)) c.in-Some.is
+      (c.next_node-at.ensures.is d b log n.0 (image_kept g.W.Words.words d b log (c.id_of-here.ensures.same ∙ inv.0) i) n.1)
+      at,
 )
 
 pub returns-clause-is : goal.returns-clause-is
