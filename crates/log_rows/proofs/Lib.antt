@@ -6,3 +6,4 @@ mod EntryParts
 mod ChainWalk
 mod ChangeWords
 mod ItemWords
+mod SampleImages

@@ -1,5 +1,5 @@
 -- A walk over the records of entries from the newest back, in search of the newest entry that passes a test.
-use Rattle.std.proofs.Common.{◌≡◌, ℕ, zero, suc, ◌+◌, ◌-◌, ◌*◌, ◌<◌, ◌≤◌, Bool, true, false, cond, ◌||◌, eqb, ◌≢◌, List, [], ◌∷◌, ◌++◌, length, get_or, Option, Some, None, refl, sym, ◌∙◌, ap, subst, arith}
+use Rattle.std.proofs.Common.{◌≡◌, ℕ, ◌+◌, ◌-◌, ◌<◌, Bool, true, false, cond, ◌||◌, eqb, ◌≢◌, List, [], ◌∷◌, ◌++◌, length, Option, Some, None, refl, sym, ◌∙◌, ap, subst, arith}
 use Rattle.std.specs.List.{find}
 use Rattle.std.proofs.lemmas.Bool.{eq-eqb, eqb-false}
 use Rattle.op_model.specs.declared.Dataset.{Dataset}
@@ -8,8 +8,6 @@ use Rattle.op_model.specs.declared.Entry.{Entry}
 use Rattle.op_model.specs.Refusals.{last_at}
 use Rattle.op_model.specs.Legal.{Legal}
 use Rattle.op_model.specs.Operations.{undoes, redoes, entry_at, last_about}
-use Rattle.op_model.proofs.HistoryLemmas.{legal_prefix}
-use Rattle.record_rows.specs.Rows.{EntryRow}
 use Rattle.record_rows.specs.Chains.{entry_before}
 use Rattle.record_rows.specs.LogRows.{rows_of}
 use Rattle.record_rows.specs.Readings.{ParentImage, first_place}
@@ -79,8 +77,7 @@ module _ (d : Dataset) (b : Base) (log : List Entry) (place : ℕ) (test : Entry
         go (e ∷ older) q w p f =
             let m = more_before d b s.entry (e ∷ older) in
             let r = more_rows d b (e ∷ older) in
-            let k : next ≡ length (rows_of d b (e ∷ older)) - 1 = cc in
-            (
+            let k : next ≡ length (rows_of d b (e ∷ older)) - 1 = cc in (
               record { newer = s.newer ++ s.entry ∷ []; entry = e; older = older; whole = w ∙ sym (moved s.newer s.entry (e ∷ older)); stands = k; finds = f ∙ rw t refl },
               omega arith,
             )

@@ -1,5 +1,4 @@
-use Rattle.std.proofs.Common.{◌≡◌, ℕ, ◌+◌, ◌<◌, ◌++◌, [], ◌∷◌, List, Some, None, refl, sym, ◌∙◌, ap, subst, length}
-use Rattle.op_model.specs.declared.Changed.{Changed}
+use Rattle.std.proofs.Common.{ℕ, ◌<◌, ◌++◌, [], ◌∷◌, List, Some, None, refl, sym, ◌∙◌, ap, subst, length}
 use Rattle.record_rows.specs.Chains.{change_in}
 use Rattle.record_rows.specs.Readings.{Image}
 use Rattle.record_rows.proofs.WalkLemmas.{steps_left}
@@ -64,8 +63,7 @@ loop-next-preserved g c =
     (let x = change_at d b log n c.in-Some.change row h t in
     x.2 ∙ ap Some (sym (c.changed-pair.ensures.is d b log n x.0 (subst (λ w. Image d b log (g.W.Words.words w)) (sym c.loop-next.invariant.0) i) x.1))) in
     let more : AllAlong words (change_in n) (change_told n) (c.loop-next.list.items ++ c.changed-pair.result ∷ []) c.next_change-next.result =
-    along_steps words (change_in n) (change_told n) (not_told n) c.loop-next.list.items c.in-Some.change all c.next_change-next.result next (Some c.changed-pair.result) pick in
-    (
+    along_steps words (change_in n) (change_told n) (not_told n) c.loop-next.list.items c.in-Some.change all c.next_change-next.result next (Some c.changed-pair.result) pick in (
       c.next_change-next.ensures.same ∙ (c.changed-pair.ensures.same ∙ c.loop-next.invariant.0),
       subst (λ xs. AllAlong words (change_in n) (change_told n) xs c.next_change-next.result) (sym c.in-Ok.ensures.items) more,
     )
