@@ -24,8 +24,8 @@ no_edge es v prefix row h = refl
 abbrev pub kept : List Edge → ℕ → ℕ → Edge → List Edge → List Edge
 kept es prefix made e fs = cond (ltb made prefix) (put_edge (with_state es e) fs) fs
 
-pub kept_ascends : (es : List Edge) (prefix made : ℕ) (e : Edge) (fs : List Edge) → PairsAscend (map (λ f. f.pair) fs) → PairsAscend (map (λ f. f.pair) (kept es prefix made e fs))
-kept_ascends es prefix made e fs a = go (ltb made prefix)
+pub kept_ascends : (es : List Edge) (prefix made : ℕ) (e : Edge) (fs gs : List Edge) → gs ≡ kept es prefix made e fs → PairsAscend (map (λ f. f.pair) fs) → PairsAscend (map (λ f. f.pair) gs)
+kept_ascends es prefix made e fs gs q a = subst (λ hs. PairsAscend (map (λ f. f.pair) hs)) (sym q) (go (ltb made prefix))
   where
     go : (t : Bool) → PairsAscend (map (λ f. f.pair) (cond t (put_edge (with_state es e) fs) fs))
     go true = sorted_ascend (put_edge (with_state es e) fs) (put_sorted (with_state es e) fs (ascend_sorted fs a))

@@ -114,9 +114,9 @@ unknown_end d b log words i q f =
     no_place (is_edge q) (rows_of d b log) (first_place (is_edge q) (rows_of d b log))
     (first_leads (is_edge q) (rows_of d b log) (HeaderRow d _ _) (header d b log words (parent_image d b log words i)) (headed_pair q d _ _))
     (λ p row h t. (let (made, e, r, s) = edge_row q row t in
-      let k : has b.supervoxels e.pair.a ≡ true = (edge_facts d b log i.dataset i.base i.legal p made e (h ∙ ap (λ x. Some x) r)).2.0 in
-      let z = supervoxel_spot d b log words (parent_image d b log words i) q.a (subst (λ x. has b.supervoxels x.a ≡ true) s k) None f in
-      let none : None ≡ Some z.0 = z.1 in cc))
+    let k : has b.supervoxels e.pair.a ≡ true = (edge_facts d b log i.dataset i.base i.legal p made e (h ∙ ap (λ x. Some x) r)).2.0 in
+    let z = supervoxel_spot d b log words (parent_image d b log words i) q.a (subst (λ x. has b.supervoxels x.a ≡ true) s k) None f in
+    let none : None ≡ Some z.0 = z.1 in cc))
 
 pub is_edge_told : (q : Pair) (made : ℕ) (e : Edge) (t : Bool) → same_pair e.pair q ≡ t → is_edge q (EdgeRow made e) ≡ t
 unfolding is_edge
