@@ -1,5 +1,5 @@
 -- The walk over the nodes of a chunk that the first entry made.
-use Rattle.std.proofs.Common.{◌≡◌, ℕ, zero, suc, ◌+◌, ◌-◌, ◌^◌, ◌<◌, ◌≤◌, true, false, cond, ◌&&◌, eqb, List, [], ◌∷◌, ◌++◌, length, map, drop, Option, Some, None, IfSome, Ok, refl, sym, ◌∙◌, ap, subst, eq-eqb, arith}
+use Rattle.std.proofs.Common.{◌≡◌, ℕ, zero, suc, ◌+◌, ◌-◌, ◌^◌, ◌<◌, true, false, cond, ◌&&◌, eqb, List, [], ◌∷◌, ◌++◌, length, map, Option, Some, None, IfSome, Ok, refl, sym, ◌∙◌, ap, subst, eq-eqb, arith}
 use Rattle.std.specs.List.{slice_get, filter_map, cons_option, list_any}
 use Rattle.std.proofs.lemmas.Bool.{cond-true, cond-false, ne_eqb, and_from, or_left, or_right, le-leb, eqb-true, false≢true}
 use Rattle.std.specs.Option.{IsSome}
@@ -32,7 +32,7 @@ use Rattle.op_model.specs.Legal.{Legal}
 use Rattle.graph_model.proofs.ListLemmas.{has_head}
 use Rattle.record_rows.proofs.FirstRoots.{first_made}
 use Rattle.op_model.proofs.LocalLemmas.{top_in_layers}
-use Rattle.timestamp_reader.specs.Places.{FirstNodeAt, NodeAt, first_from}
+use Rattle.timestamp_reader.specs.Places.{NodeAt, first_from}
 
 -- the id of a layer's first chunk
 pub zero_packs : (f : LayoutForm) (layer : ℕ) → let p : Parts = record { layer = layer; x = 0; y = 0; z = 0; segment = 0 } in packed f p ≡ Ok (id_of f p)

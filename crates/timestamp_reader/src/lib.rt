@@ -10,8 +10,10 @@
 //! - `entries`: whole entries of the log
 #![tactic(auto)]
 
+mod entries;
 mod first_roots;
 mod nodes;
 mod roots;
 
+pub use entries::entry;
 pub use nodes::{path_at, root_at};

@@ -1,11 +1,8 @@
-use Rattle.std.proofs.Common.{◌≡◌, ℕ, ◌+◌, ◌*◌, ◌<◌, ◌++◌, [], ◌∷◌, List, length, Some, None, refl, sym, ◌∙◌, ap, subst, arith, append-nil, append_assoc}
-use Rattle.op_model.specs.declared.Dataset.{Dataset}
-use Rattle.op_model.specs.declared.Base.{Base}
-use Rattle.op_model.specs.declared.Entry.{Entry}
+use Rattle.std.proofs.Common.{◌<◌, ◌++◌, [], ◌∷◌, length, sym, ◌∙◌, ap, subst, arith, append-nil, append_assoc}
 use Rattle.record_rows.specs.Rows.{NodeRow}
 use Rattle.record_rows.specs.Chains.{node_in}
 use Rattle.record_rows.specs.LogRows.{rows_of}
-use Rattle.record_rows.specs.Readings.{HoldsChunk, ParentImage, next_place}
+use Rattle.record_rows.specs.Readings.{ParentImage, next_place}
 use Rattle.record_rows.proofs.ImageFacts.{within}
 use Rattle.record_rows.proofs.WalkLemmas.{Behind, steps_left, next_behind}
 use Rattle.timestamp_reader.specs.Places.{FirstNodeAt, NodeAt, first_from}

@@ -1,7 +1,5 @@
-use Rattle.std.proofs.Common.{◌≡◌, ℕ, ◌++◌, [], ◌∷◌, List, None, refl, sym, ◌∙◌, ap, subst, map}
+use Rattle.std.proofs.Common.{◌≡◌, ℕ, ◌++◌, [], ◌∷◌, List, sym, ◌∙◌, subst}
 use Rattle.std.specs.Result.{IfOk}
-use Rattle.op_model.specs.declared.Dataset.{Dataset}
-use Rattle.op_model.specs.declared.Base.{Base}
 use Rattle.op_model.specs.declared.Entry.{Entry}
 use Rattle.op_model.specs.Valid.{IsSupervoxel}
 use Rattle.op_model.proofs.RootLemmas.{top_chunk}

@@ -1,10 +1,7 @@
-use Rattle.std.proofs.Common.{◌≡◌, ℕ, ◌≤◌, ◌∙◌, Ok, length, get_or, refl, sym, subst, ap, ap₂, arith}
+use Rattle.std.proofs.Common.{◌≡◌, ℕ, ◌≤◌, ◌∙◌, length, get_or, refl, sym, subst, ap, ap₂, arith}
 use Rattle.std.specs.Result.{IsOk, IfOk}
-use Rattle.node_ids.specs.declared.Parts.{Parts}
 use Rattle.node_ids.specs.Ids.{id_of}
-use Rattle.node_ids.specs.Packing.{packed}
 use Rattle.op_model.specs.Chunks.{top}
-use Rattle.record_rows.specs.Words.{layout_word}
 use Rattle.record_rows.proofs.ImageFacts.{header, within}
 use Rattle.record_rows.proofs.ToldLaws.{headers_state}
 use Rattle.timestamp_reader.proofs.FirstWalks.{zero_packs}
