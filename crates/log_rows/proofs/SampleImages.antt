@@ -1,16 +1,15 @@
 -- The words of the sample log are its image.
-use Rattle.std.proofs.Common.{◌≡◌, ℕ, ◌<◌, ◌≤◌, true, ltb, leb, List, [], ◌∷◌, length, refl, sym, subst, arith}
+use Rattle.std.proofs.Common.{◌≡◌, ℕ, ◌<◌, ◌≤◌, true, false, ltb, leb, List, [], ◌∷◌, length, refl, sym, subst, arith}
 use Rattle.std.proofs.lemmas.Bool.{leb-true, ltb-true}
 use Rattle.op_model.specs.declared.Dataset.{Dataset}
 use Rattle.op_model.specs.declared.Base.{Base}
 use Rattle.op_model.specs.declared.Edit.TheVariants.{Split}
 use Rattle.op_model.specs.declared.Entry.{Entry}
 use Rattle.op_model.specs.Samples.{p, q, r, s, join, base, data_a, halved}
-use Rattle.op_model.specs.Valid.{IsDataset, IsBase}
-use Rattle.op_model.specs.Legal.{Legal}
 use Rattle.op_model.proofs.Opened.{definitions}
 use Rattle.record_rows.specs.Samples.{words_halved}
-use Rattle.record_rows.specs.Readings.{Image, ParentImage}
+use Rattle.record_rows.specs.Readings.{Image, ParentImage, HoldsChange}
+use Rattle.op_model.specs.declared.Changed.{Changed}
 use Rattle.record_rows.proofs.Opened.{row_definitions}
 use Rattle.record_rows.proofs.ImageFacts.{parent_image}
 
@@ -61,3 +60,11 @@ entry_told words n e l = (data_a, base, halved, parent_image data_a base halved 
 
 pub made_told : (words : List ℕ) (n : ℕ) → words ≡ words_halved → n < 3 → (d : Dataset) × (b : Base) × (log : List Entry) × Image d b log words × (n < length log)
 made_told words n e l = (data_a, base, halved, words_told words e, l)
+
+split_change : HoldsChange data_a base halved 45 2 (record { pair = record { a = r; b = s }; active = false })
+unfolding definitions row_definitions
+split_change = refl
+
+pub change_told : (words : List ℕ) → words ≡ words_halved
+    → (d : Dataset) × (b : Base) × (log : List Entry) × (entry : ℕ) × (c : Changed) × Image d b log words × HoldsChange d b log 45 entry c
+change_told words e = (data_a, base, halved, 2, record { pair = record { a = r; b = s }; active = false }, words_told words e, split_change)

@@ -409,44 +409,173 @@ fn halved(alloc: Global) -> Result<VecWords, NoMemory>
     VecWords::new(words, 0)
 }
 
-fn has_heads(w: &mut VecWords) -> bool
+#[tactic(auto, using(crate::proofs::SampleImages::image_told))]
+fn has_length(w: &mut VecWords, wanted: u32) -> bool
     requires halved { w.old.words ≡ words_halved }
-    ensures same { w.new ≡ w.old }
+    ensures halved { w.new.words ≡ words_halved }
 {
-    let count = length(w);
-    let first = head(w, 0);
-    let second = head(w, 1);
-    let third = head(w, 2);
-    count == 3
-        && first
-            == Head {
-                at: 1000,
-                client: 0,
-                line: 0,
-                kind: Kind::Ingest,
-                names: 0,
-            }
-        && second
-            == Head {
-                at: 1010,
-                client: 1,
-                line: 1,
-                kind: Kind::Merge,
-                names: 0,
-            }
-        && third
-            == Head {
-                at: 1020,
-                client: 1,
-                line: 1,
-                kind: Kind::Split,
-                names: 0,
-            }
+    length(w) == wanted
+}
+
+#[tactic(auto, using(crate::proofs::SampleImages::entry_told))]
+fn has_head(w: &mut VecWords, n: u32, wanted: Head) -> bool
+    requires halved { w.old.words ≡ words_halved }
+    requires entry { n < 3 }
+    ensures halved { w.new.words ≡ words_halved }
+{
+    head(w, n) == wanted
+}
+
+#[tactic(auto, using(crate::proofs::SampleImages::entry_told))]
+fn has_last(w: &mut VecWords, op: u32, wanted: u32) -> bool
+    requires halved { w.old.words ≡ words_halved }
+    requires entry { op < 3 }
+    ensures halved { w.new.words ≡ words_halved }
+{
+    last_about(w, op) == wanted
+}
+
+#[tactic(auto, using(crate::proofs::SampleImages::image_told))]
+fn has_prefix(w: &mut VecWords, t: u64, wanted: Result<u32, TimeRefusal>) -> bool
+    requires halved { w.old.words ≡ words_halved }
+    ensures halved { w.new.words ≡ words_halved }
+{
+    prefix_at(w, t) == wanted
+}
+
+#[tactic(auto, using(crate::proofs::SampleImages::entry_told, crate::proofs::SampleImages::made_told))]
+fn has_places(w: &mut VecWords, n: u32, entry: Spot, change: Option<Spot>) -> bool
+    requires halved { w.old.words ≡ words_halved }
+    requires entry { n < 3 }
+    ensures halved { w.new.words ≡ words_halved }
+{
+    let spot = entry_spot(w, n);
+    let first = first_change(w, n);
+    spot == entry && first == change
+}
+
+#[tactic(auto, using(crate::proofs::SampleImages::change_told))]
+fn has_change(w: &mut VecWords, wanted: Changed) -> bool
+    requires halved { w.old.words ≡ words_halved }
+    ensures halved { w.new.words ≡ words_halved }
+{
+    let next = next_change(w, Spot(45));
+    let pair = changed(w, Spot(45));
+    next.is_none() && pair == wanted
+}
+
+#[tactic(auto, using(crate::proofs::SampleImages::made_told))]
+fn has_changed(
+    alloc: Global,
+    w: &mut VecWords,
+    n: u32,
+    wanted: &[Changed],
+) -> Result<bool, NoMemory>
+    requires halved { w.old.words ≡ words_halved }
+    requires entry { n < 3 }
+    ensures halved { w.new.words ≡ words_halved }
+{
+    let pairs = all_changed(alloc, w, n)?;
+    Ok(pairs.list.as_slice() == wanted)
+}
+
+#[tactic(auto, using(crate::proofs::SampleImages::made_told))]
+fn asked_of(alloc: Global, w: &mut VecWords, n: u32) -> Result<Asked, NoMemory>
+    requires halved { w.old.words ≡ words_halved }
+    requires entry { n < 3 }
+    ensures halved { w.new.words ≡ words_halved }
+{
+    asked(alloc, w, n)
+}
+
+// the head of an entry of this client's line of the same number
+fn head_of(at: u64, client: u32, kind: Kind) -> Head {
+    Head {
+        at,
+        client,
+        line: client,
+        kind,
+        names: 0,
+    }
 }
 
 #[test]
-fn heads_are_told(rt: HostRuntime) -> Result<(), NoMemory> {
+fn the_log_is_told(rt: HostRuntime) -> Result<(), NoMemory> {
     let mut w = halved(rt.alloc())?;
-    assert!(rt; has_heads(&mut w));
+    assert!(rt; has_length(&mut w, 3));
+    assert!(rt; has_head(&mut w, 0, head_of(1000, 0, Kind::Ingest)));
+    assert!(rt; has_head(&mut w, 1, head_of(1010, 1, Kind::Merge)));
+    assert!(rt; has_head(&mut w, 2, head_of(1020, 1, Kind::Split)));
+    assert!(rt; has_last(&mut w, 0, 0));
+    assert!(rt; has_last(&mut w, 2, 2));
+    Ok(())
+}
+
+#[test]
+fn times_have_prefixes(rt: HostRuntime) -> Result<(), NoMemory> {
+    let mut w = halved(rt.alloc())?;
+    let early = Err(TimeRefusal::TooEarly { first: 1000 });
+    let late = Err(TimeRefusal::Unpublished { latest: 1020 });
+    assert!(rt; has_prefix(&mut w, 999, early));
+    assert!(rt; has_prefix(&mut w, 1000, Ok(1)));
+    assert!(rt; has_prefix(&mut w, 1009, Ok(1)));
+    assert!(rt; has_prefix(&mut w, 1010, Ok(2)));
+    assert!(rt; has_prefix(&mut w, 1020, Ok(3)));
+    assert!(rt; has_prefix(&mut w, 1021, late));
+    Ok(())
+}
+
+#[test]
+fn entries_have_changes(rt: HostRuntime) -> Result<(), NoMemory> {
+    let alloc = rt.alloc();
+    let mut w = halved(alloc)?;
+    assert!(rt; has_places(&mut w, 0, Spot(23), None));
+    assert!(rt; has_places(&mut w, 1, Spot(33), Some(Spot(32))));
+    assert!(rt; has_places(&mut w, 2, Spot(46), Some(Spot(45))));
+    let on = Changed {
+        pair: Pair { a: R, b: S },
+        active: true,
+    };
+    let off = Changed {
+        pair: Pair { a: R, b: S },
+        active: false,
+    };
+    assert!(rt; has_change(&mut w, off));
+    assert!(rt; has_changed(alloc, &mut w, 0, &[])?);
+    assert!(rt; has_changed(alloc, &mut w, 1, &[on])?);
+    assert!(rt; has_changed(alloc, &mut w, 2, &[off])?);
+    Ok(())
+}
+
+fn is_ingest(asked: &Asked) -> bool {
+    matches!(asked, Asked::Ingest)
+}
+
+fn is_merge(asked: &Asked) -> bool {
+    match asked {
+        Asked::Edit(Edit::Merge { pairs }) => pairs.list.as_slice()
+            == [AskedPair { a: R, b: S }].as_slice(),
+        _ => false,
+    }
+}
+
+fn is_split(asked: &Asked) -> bool {
+    match asked {
+        Asked::Edit(Edit::Split { sources, sinks }) => sources.list.as_slice() == [P].as_slice()
+            && sinks.list.as_slice() == [S].as_slice(),
+        _ => false,
+    }
+}
+
+#[test]
+fn requests_are_told(rt: HostRuntime) -> Result<(), NoMemory> {
+    let alloc = rt.alloc();
+    let mut w = halved(alloc)?;
+    let first = asked_of(alloc, &mut w, 0)?;
+    let second = asked_of(alloc, &mut w, 1)?;
+    let third = asked_of(alloc, &mut w, 2)?;
+    assert!(rt; is_ingest(&first));
+    assert!(rt; is_merge(&second));
+    assert!(rt; is_split(&third));
     Ok(())
 }
