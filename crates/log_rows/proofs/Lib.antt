@@ -5,3 +5,5 @@ mod TimeLemmas
 mod EntryParts
 mod ChainWalk
 mod ChangeWords
+mod ItemWords
+mod SampleImages

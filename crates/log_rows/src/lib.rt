@@ -11,11 +11,16 @@
 //! - `changing`: which pairs an entry changed
 #![tactic(auto)]
 
+mod asking;
 mod changing;
 mod heads;
+mod marks;
 mod records;
+#[cfg(test)]
+mod tests;
 mod times;
 
+pub use asking::asked;
 pub use changing::{all_changed, changed, first_change, next_change};
 pub use heads::{entry_spot, head, last_about, length};
 pub use records::Head;

@@ -3,3 +3,6 @@ pub mod ChainWalks
 pub mod VersionWalks
 pub mod NodeWalks
 pub mod ChunkWalks
+pub mod Seeks
+pub mod Sought
+pub mod Samples

@@ -12,9 +12,13 @@
 #![tactic(auto)]
 
 mod chunk_nodes;
+mod finding;
 mod nodes;
+#[cfg(test)]
+mod tests;
 mod versions;
 
 pub use chunk_nodes::{first_node, last_node, next_node};
+pub use finding::{chunk, find};
 pub use nodes::{NodeRow, children, ended, node};
 pub use versions::{last_version, parent_at};

@@ -39,7 +39,7 @@ differ_at (x ∷ xs) d zero (suc j) l h = all_at xs j d.0 (omega arith)
 differ_at (x ∷ xs) d (suc i) (suc j) l h = differ_at xs d.1 i j (omega arith) (omega arith)
 
 -- where a member of a list stands in it
-place_in : (xs : List ℕ) (v : ℕ) → has xs v ≡ true → (k : ℕ) × (k < length xs) × (get_or xs k 0 ≡ v)
+pub place_in : (xs : List ℕ) (v : ℕ) → has xs v ≡ true → (k : ℕ) × (k < length xs) × (get_or xs k 0 ≡ v)
 place_in [] v h = absurd (false≢true h)
 place_in (x ∷ xs) v h = elim (has_cases x xs v h) [
   | inl e ↦ (0, omega arith, e)

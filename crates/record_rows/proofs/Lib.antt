@@ -22,8 +22,11 @@ pub mod BaseCounts
 pub mod ImageFacts
 pub mod BaseRows
 pub mod PrefixNodes
+pub mod FirstRoots
 pub mod StoreLemmas
 pub mod RowFacts
 pub mod Picks
 pub mod NodeOrder
 pub mod EntryRecords
+pub mod ChildOrder
+pub mod NodeIds

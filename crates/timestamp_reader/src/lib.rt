@@ -10,6 +10,7 @@
 //! - `entries`: whole entries of the log
 #![tactic(auto)]
 
+mod first_roots;
 mod nodes;
 mod roots;
 

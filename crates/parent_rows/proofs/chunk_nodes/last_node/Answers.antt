@@ -1,4 +1,4 @@
-use Rattle.std.proofs.Common.{◌≡◌, ◌∙◌, sym, ap, subst}
+use Rattle.std.proofs.Common.{◌∙◌, ap}
 use Rattle.record_rows.specs.Rows.{NodeRow}
 use Rattle.record_rows.specs.Chains.{node_in}
 use Rattle.record_rows.specs.LogRows.{rows_of}
@@ -32,12 +32,12 @@ pub loop-at-preserved : goal.loop-at-preserved
 loop-at-preserved g c = (
   c.next_node-at.ensures.same ∙ c.loop-at.invariant.0,
   λ d b log x i h.
-    let inv = c.loop-at.invariant in
-    let at = inv.1 d b log x i h in
-    let n = chunk_node (rows_of d b log) x c.in-Some.node c.in-Some.is at.0 in
-    last_step (node_in x) (rows_of d b log) c.in-Some.node c.loop-at.found c.in-Some.is
-    (c.next_node-at.ensures.is d b log n.0 (image_kept g.W.Words.words d b log inv.0 i) n.1 ∙ ap (λ y. next_place (node_in y) (rows_of d b log) c.in-Some.node) n.2)
-    at,
+      let inv = c.loop-at.invariant in
+      let at = inv.1 d b log x i h in
+      let n = chunk_node (rows_of d b log) x c.in-Some.node c.in-Some.is at.0 in
+      last_step (node_in x) (rows_of d b log) c.in-Some.node c.loop-at.found c.in-Some.is
+      (c.next_node-at.ensures.is d b log n.0 (image_kept g.W.Words.words d b log inv.0 i) n.1 ∙ ap (λ y. next_place (node_in y) (rows_of d b log) c.in-Some.node) n.2)
+      at,
 )
 
 pub returns-clause-is : goal.returns-clause-is
