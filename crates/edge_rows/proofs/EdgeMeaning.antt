@@ -1,10 +1,9 @@
 -- What the records of a log tell of its edges at a prefix: the state of each pair, and the edges themselves.
-use Rattle.std.proofs.Common.{◌≡◌, ℕ, zero, suc, ◌+◌, ◌-◌, ◌<◌, ◌≤◌, ◌^◌, Bool, true, false, cond, not, ◌&&◌, ◌||◌, eqb, ltb, List, [], ◌∷◌, ◌++◌, length, map, drop, Option, Some, None, refl, sym, ◌∙◌, ap, subst, inl, inr, ◌⊎◌, arith, append-nil, lt-ltb, ap₂}
-use Rattle.std.specs.List.{AllByRecursion, slice_get, filter, filter_map, cons_option, last_or, list_any}
-use Rattle.std.proofs.lemmas.Bool.{cases_Bool, cases_lt, le-ltb, false≢true, ltb-true, or_parts}
+use Rattle.std.proofs.Common.{◌≡◌, ℕ, suc, ◌-◌, ◌<◌, ◌≤◌, ◌^◌, Bool, true, false, cond, not, ◌&&◌, ◌||◌, eqb, ltb, List, [], ◌∷◌, ◌++◌, length, map, Option, Some, None, refl, sym, ◌∙◌, ap, subst, inl, inr, ◌⊎◌, arith, append-nil, lt-ltb, ap₂}
+use Rattle.std.specs.List.{AllByRecursion, slice_get, filter, filter_map, cons_option, last_or}
+use Rattle.std.proofs.lemmas.Bool.{cases_lt, le-ltb, or_parts}
 use Rattle.std.proofs.lemmas.List.{map-append}
 use Rattle.std.proofs.lemmas.List.Elements.{filter-append, filter_map-append}
-use Rattle.std.proofs.lemmas.Option.{same_Some}
 use Rattle.std.proofs.Math.Seq.{drop-nil}
 use Rattle.op_model.specs.declared.Dataset.{Dataset}
 use Rattle.op_model.specs.declared.Base.{Base}
@@ -23,7 +22,7 @@ use Rattle.op_model.specs.Legal.{Legal}
 use Rattle.op_model.specs.Laws.{IsKnown}
 use Rattle.op_model.proofs.KnownLemmas.{legal_known}
 use Rattle.op_model.proofs.OrderLemmas.{Sorted, put_sorted, after_sorted}
-use Rattle.record_rows.specs.Rows.{Row, HeaderRow, SupervoxelRow, ChunkRow, NodeRow, LinkRow, EdgeRow, ChangeRow, ItemRow, EntryRow, Node, Link, Item}
+use Rattle.record_rows.specs.Rows.{Row, NodeRow, LinkRow, EdgeRow, ChangeRow, ItemRow, EntryRow, Node, Link, Item}
 use Rattle.record_rows.specs.LogRows.{marks, chunks, new_nodes, new_links, unknown, new_edges, entry_rows, base_rows, rows_of}
 use Rattle.record_rows.specs.Walks.{is_end, edges_at, is_active}
 use Rattle.record_rows.proofs.RowFacts.{all_at, all_base}

@@ -1,5 +1,5 @@
 -- The walk along the edges of a supervoxel that lists them as they are at a prefix.
-use Rattle.std.proofs.Common.{◌≡◌, ℕ, ◌<◌, Bool, true, false, cond, ◌&&◌, ◌||◌, eqb, ltb, List, [], ◌∷◌, map, Option, Some, None, refl, sym, ◌∙◌, ap, subst}
+use Rattle.std.proofs.Common.{◌≡◌, ℕ, Bool, true, false, cond, ◌&&◌, ltb, List, [], map, Option, Some, None, refl, sym, ◌∙◌, ap, subst}
 use Rattle.std.specs.List.{slice_get, filter_map, cons_option}
 use Rattle.op_model.specs.declared.Edge.{Edge}
 use Rattle.op_model.specs.Edges.{put_edge, put_edges}
@@ -8,7 +8,7 @@ use Rattle.op_model.proofs.OrderLemmas.{put_sorted}
 use Rattle.record_rows.specs.Rows.{Row, EdgeRow}
 use Rattle.record_rows.specs.Chains.{edge_at}
 use Rattle.record_rows.specs.Readings.{first_place, next_place}
-use Rattle.record_rows.specs.Walks.{is_end, edges_at, is_active}
+use Rattle.record_rows.specs.Walks.{is_end, edges_at}
 use Rattle.record_rows.proofs.WalkLemmas.{LeadsTo, from_spot, first_leads, next_leads, gather_first, gather_step}
 use Rattle.edge_rows.specs.AtPrefix.{with_state}
 use Rattle.edge_rows.proofs.EdgeLists.{given}

@@ -1,7 +1,6 @@
 -- The words of small logs are images of them, and where their supervoxels and edges stand.
 use Rattle.std.proofs.Common.{◌≡◌, ℕ, zero, suc, ◌<◌, ◌≤◌, ltb, leb, true, false, List, [], ◌∷◌, refl, sym, subst, arith}
 use Rattle.std.proofs.lemmas.Bool.{leb-true, ltb-true}
-use Rattle.op_model.specs.declared.Edge.{Edge}
 use Rattle.op_model.specs.declared.Edit.TheVariants.{Split}
 use Rattle.op_model.specs.Valid.{IsDataset, IsBase}
 use Rattle.op_model.specs.Samples.{p, q, r, s, join, edge, base, data_a, halved}

@@ -1,4 +1,4 @@
-use Rattle.std.proofs.Common.{◌≡◌, ◌∙◌, ◌+◌, ◌*◌, ◌<◌, ◌≤◌, Some, true, sym, ap, subst, map, length}
+use Rattle.std.proofs.Common.{◌≡◌, ◌∙◌, ◌+◌, ◌*◌, ◌<◌, ◌≤◌, true, sym, ap, subst, map, length}
 use Rattle.op_model.specs.Labels.{edges}
 use Rattle.op_model.specs.Cuts.{PairsAscend}
 use Rattle.op_model.specs.Transcript.{log_at}
