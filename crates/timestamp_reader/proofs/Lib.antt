@@ -2,3 +2,4 @@ pub mod Climbs
 pub mod EndLists
 pub mod FirstWalks
 pub mod EntryFacts
+pub mod Samples

@@ -46,7 +46,12 @@ pub fn entry<W: Words>(alloc: Global, w: &mut W, n: u32) -> Result<Entry, NoMemo
 
 /// The roots that this entry retired: those of its changed pairs' ends before it, and none of the
 /// ingest.
-fn retired_by<W: Words>(alloc: Global, w: &mut W, changed: &ChangedPairs, n: u32) -> Result<Ids, NoMemory>
+fn retired_by<W: Words>(
+    alloc: Global,
+    w: &mut W,
+    changed: &ChangedPairs,
+    n: u32,
+) -> Result<Ids, NoMemory>
     requires entry { (d : Dataset) × (b : Base) × (log : List Entry) × (e : Entry) × IsChangedBy d b log (W.words w.old) n e changed.now }
     ensures same { w.new ≡ w.old }
     ensures is { (d : Dataset) (b : Base) (log : List Entry) (e : Entry) → IsChangedBy d b log (W.words w.old) n e changed.now → IfOk result (λ ids. ids ≡ e.retired) }
@@ -62,7 +67,12 @@ fn retired_by<W: Words>(alloc: Global, w: &mut W, changed: &ChangedPairs, n: u32
 
 /// The roots that this entry made: those of its changed pairs' ends after it, and all roots of the
 /// base for the ingest.
-fn made_by<W: Words>(alloc: Global, w: &mut W, changed: &ChangedPairs, n: u32) -> Result<Ids, NoMemory>
+fn made_by<W: Words>(
+    alloc: Global,
+    w: &mut W,
+    changed: &ChangedPairs,
+    n: u32,
+) -> Result<Ids, NoMemory>
     requires entry { (d : Dataset) × (b : Base) × (log : List Entry) × (e : Entry) × IsChangedBy d b log (W.words w.old) n e changed.now }
     ensures same { w.new ≡ w.old }
     ensures is { (d : Dataset) (b : Base) (log : List Entry) (e : Entry) → IsChangedBy d b log (W.words w.old) n e changed.now → IfOk result (λ ids. ids ≡ e.made) }

@@ -14,6 +14,8 @@ mod entries;
 mod first_roots;
 mod nodes;
 mod roots;
+#[cfg(test)]
+mod tests;
 
 pub use entries::entry;
 pub use nodes::{path_at, root_at};
