@@ -29,3 +29,4 @@ pub mod Picks
 pub mod NodeOrder
 pub mod ChildOrder
 pub mod NodeIds
+pub mod RunRows
