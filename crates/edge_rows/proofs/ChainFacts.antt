@@ -1,13 +1,13 @@
 -- What the records of an image tell of the chains of edges and changes.
-use Rattle.std.proofs.Common.{◌≡◌, ℕ, ◌+◌, ◌*◌, ◌<◌, ◌≤◌, ◌^◌, Bool, true, false, cond, eqb, List, length, get_or, refl, sym, ◌∙◌, ap, subst, arith, inl, inr}
-use Rattle.std.proofs.lemmas.Bool.{false≢true, or_cases, eqb-true}
+use Rattle.std.proofs.Common.{◌≡◌, ℕ, ◌+◌, ◌*◌, ◌<◌, ◌≤◌, ◌^◌, true, eqb, List, length, get_or, refl, sym, ◌∙◌, ap, arith, inl, inr}
+use Rattle.std.proofs.lemmas.Bool.{or_cases, eqb-true}
 use Rattle.op_model.specs.declared.Dataset.{Dataset}
 use Rattle.op_model.specs.declared.Base.{Base}
 use Rattle.op_model.specs.declared.Edge.{Edge}
 use Rattle.op_model.specs.declared.Changed.{Changed}
 use Rattle.op_model.specs.declared.Entry.{Entry}
 use Rattle.record_rows.specs.Rows.{Row, SupervoxelRow, EdgeRow, ChangeRow}
-use Rattle.record_rows.specs.Chains.{Nowhere, First, Next, aims, edge_at, change_of}
+use Rattle.record_rows.specs.Chains.{aims, edge_at, change_of}
 use Rattle.record_rows.specs.Words.{fixed_words}
 use Rattle.record_rows.specs.LogRows.{rows_of}
 use Rattle.record_rows.specs.Readings.{Image, Holds, HoldsSupervoxel, HoldsEdge, HoldsChange, place_of, first_place, next_place}
@@ -52,3 +52,7 @@ module _ (d : Dataset) (b : Base) (log : List Entry) (words : List ℕ) (i : Ima
   pub next_change_is : (p entry : ℕ) (c : Changed) → HoldsChange d b log p entry c → place_of (get_or words (8 * p + 5) 0) ≡ next_place (change_of c.pair) (rows_of d b log) p
   unfolding aims
   next_change_is p entry c h = image_next d b log words i p 1 (ChangeRow entry c) (change_of c.pair) h (omega arith) refl
+
+  pub supervoxel_is : (p v : ℕ) → HoldsSupervoxel d b log p v → get_or words (8 * p + 1) 0 ≡ v
+  unfolding fixed_words
+  supervoxel_is p v h = image_fixed d b log words i p 1 (SupervoxelRow v) h (omega arith)

@@ -1,3 +1,10 @@
 pub mod ChainFacts
 pub mod EdgeLists
 pub mod EdgeMeaning
+pub mod FieldFacts
+pub mod Walks
+pub mod StateWalks
+pub mod Placing
+pub mod Listed
+pub mod Narrow
+pub mod SampleImages

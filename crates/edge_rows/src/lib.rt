@@ -4,9 +4,22 @@
 //! words are meant. No call changes what a contract sees of the words.
 //!
 //! - `chains`: from one record of a chain to the next
+//! - `fields`: what the words of an edge or a change tell
 //! - `finding`: the record of a pair, and the ends of chains
 //! - `states`: the state of an edge at a prefix
+//! - `inserting`: edges put into an ascending list
 //! - `listing`: the edges of a supervoxel at a prefix
 #![tactic(auto)]
 
 mod chains;
+mod fields;
+mod finding;
+mod inserting;
+mod listing;
+mod states;
+#[cfg(test)]
+mod tests;
+
+pub use finding::{find_edge, last_change, last_edge};
+pub use listing::edges_of;
+pub use states::state_at;

@@ -9,4 +9,21 @@
 //! - `times`: which entries were there at a time
 //! - `asking`: what made an entry
 //! - `changing`: which pairs an entry changed
+//! - `records`: the record of one entry, and the way to the entry before
+//! - `marks`: the ids of an entry's request
 #![tactic(auto)]
+
+mod asking;
+mod changing;
+mod heads;
+mod marks;
+mod records;
+#[cfg(test)]
+mod tests;
+mod times;
+
+pub use asking::asked;
+pub use changing::{all_changed, changed, first_change, next_change};
+pub use heads::{entry_spot, head, last_about, length};
+pub use records::Head;
+pub use times::{TimeRefusal, prefix_at};

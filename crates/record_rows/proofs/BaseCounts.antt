@@ -27,13 +27,13 @@ use Rattle.record_rows.specs.LogRows.{marks, layer_chunks, chunks, new_nodes, ne
 use Rattle.record_rows.proofs.ImageLemmas.{length-map}
 use Rattle.record_rows.proofs.DifferLemmas.{Differ, all_each, all_more, all_map, differ_filter, differ_more, differ_flat}
 use Rattle.record_rows.proofs.LayerIds.{same_layer}
-use Rattle.record_rows.proofs.LeastLemmas.{least_in, least_component, least_same}
+use Rattle.op_model.proofs.LabelLemmas.{least_in, least_component, least_same}
 use Rattle.record_rows.proofs.OnceLemmas.{all_has_self, all_pairs, ascending_differ, ascending_lists, layers_low, layers_differ}
 use Rattle.record_rows.proofs.LinkLemmas.{all_ascending, of_component}
 use Rattle.record_rows.proofs.SumLemmas.{total-flat, total_same, total_ones, parted, sorted_same, of_ascending, different_length}
 use Rattle.record_rows.proofs.CountLemmas.{component_differ, nodes_count, links_count, entry_count}
 
-flat_has : (f : ℕ → List ℕ) (ls : List ℕ) (l i : ℕ) → has ls l ≡ true → has (f l) i ≡ true → has (flat_map f ls) i ≡ true
+pub flat_has : (f : ℕ → List ℕ) (ls : List ℕ) (l i : ℕ) → has ls l ≡ true → has (f l) i ≡ true → has (flat_map f ls) i ≡ true
 flat_has f [] l i h g = absurd (false≢true h)
 flat_has f (k ∷ ls) l i h g = elim (has_cases k ls l h) [
   | inl e ↦ append_left (f k) (flat_map f ls) i (subst (λ j. has (f j) i ≡ true) (sym e) g)

@@ -1,5 +1,5 @@
 -- The records of the base: supervoxels, then chunks, each with ascending ids, and no others of their kinds.
-use Rattle.std.proofs.Common.{◌≡◌, ◌≢◌, ℕ, zero, suc, ◌+◌, ◌-◌, ◌*◌, ◌/◌, ◌%◌, ◌<◌, ◌≤◌, ◌^◌, Bool, true, false, eqb, List, [], ◌∷◌, ◌++◌, length, map, get_or, Option, Some, None, refl, sym, ◌∙◌, ap, subst, eq-eqb, arith, length-append, append_assoc, append-nil}
+use Rattle.std.proofs.Common.{◌≡◌, ◌≢◌, ℕ, zero, suc, ◌+◌, ◌-◌, ◌*◌, ◌/◌, ◌%◌, ◌<◌, ◌≤◌, ◌^◌, Bool, true, false, eqb, List, [], ◌∷◌, ◌++◌, length, map, get_or, Option, Some, None, refl, sym, ◌∙◌, ap, subst, inl, inr, eq-eqb, arith, length-append, append_assoc, append-nil}
 use Rattle.std.specs.List.{AllByRecursion, slice_get}
 use Rattle.std.proofs.lemmas.Bool.{ne_eqb, false≢true}
 use Rattle.std.proofs.lemmas.Nat.{pow_pos}
@@ -10,7 +10,7 @@ use Rattle.op_model.specs.declared.Entry.{Entry}
 use Rattle.graph_model.specs.Lists.{has}
 use Rattle.op_model.specs.Chunks.{layers, chunk}
 use Rattle.op_model.specs.Valid.{IsDataset, IsBase}
-use Rattle.graph_model.proofs.ListLemmas.{has_head, has_tail}
+use Rattle.graph_model.proofs.ListLemmas.{has_head, has_tail, has_cases}
 use Rattle.record_rows.specs.Rows.{Row, HeaderRow, SupervoxelRow, ChunkRow, NodeRow, LinkRow, EdgeRow, ChangeRow, ItemRow, EntryRow}
 use Rattle.record_rows.specs.Words.{place_from, fixed_words, words_of}
 use Rattle.record_rows.specs.LogRows.{layer_chunks, chunks, marks, new_edges, new_links, new_nodes, entry_rows, base_rows, rows_of}
@@ -37,6 +37,14 @@ differ_at (x ∷ xs) d zero (suc j) l h = all_at xs j d.0 (omega arith)
     all_at (y ∷ ys) zero a m = a.0
     all_at (y ∷ ys) (suc k) a m = all_at ys k a.1 (omega arith)
 differ_at (x ∷ xs) d (suc i) (suc j) l h = differ_at xs d.1 i j (omega arith) (omega arith)
+
+-- where a member of a list stands in it
+pub place_in : (xs : List ℕ) (v : ℕ) → has xs v ≡ true → (k : ℕ) × (k < length xs) × (get_or xs k 0 ≡ v)
+place_in [] v h = absurd (false≢true h)
+place_in (x ∷ xs) v h = elim (has_cases x xs v h) [
+  | inl e ↦ (0, omega arith, e)
+  | inr g ↦ let r = place_in xs v g in (suc r.0, (let l = r.1 in omega arith), r.2)
+]
 
 -- the record is of no id of this kind
 abbrev Other : (ℕ → Row → Bool) → Row → Type 0
@@ -294,6 +302,21 @@ module _ (d : Dataset) (b : Base) where
         (λ k h. ap (λ m. id_at words (m + k)) n ∙ chunk_told k h) found
         (subst (λ m. FoundAmong words m (length (chunks d b)) id found) e (subst (λ m. FoundAmong words (1 + supervoxel_count words) m id found) chunks_counted f))
         ∙ ap (first_place (is_chunk id)) (sym c.1)
+
+    -- a supervoxel of the base is found, at the place of its record
+    pub supervoxel_spot : (v : ℕ) → has b.supervoxels v ≡ true → (found : Option ℕ) → FoundAmong words 1 (supervoxel_count words) v found → (p : ℕ) × (found ≡ Some p) × Holds d b log p (SupervoxelRow v)
+    supervoxel_spot v h None f =
+        let k = place_in b.supervoxels v h in
+        let n = supervoxels_counted in
+        absurd (f (1 + k.0) (omega arith) (let l = k.1 in omega (arith, l, n)) (supervoxel_told k.0 k.1 ∙ k.2))
+    supervoxel_spot v h (Some p) f =
+        let n = supervoxels_counted in
+        let low = f.0 in
+        let high = f.1 in
+        let e : 1 + (p - 1) ≡ p = omega arith in
+        let l : p - 1 < length b.supervoxels = omega (arith, n) in
+        let q : get_or b.supervoxels (p - 1) 0 ≡ v = sym (supervoxel_told (p - 1) l) ∙ (ap (id_at words) e ∙ f.2) in
+        (p, refl, subst (λ x. Holds d b log x (SupervoxelRow v)) e (subst (λ x. Holds d b log (1 + (p - 1)) (SupervoxelRow x)) q (supervoxel_at (p - 1) l)))
 
     -- a record of a supervoxel is that of one of the base
     pub supervoxel_known : (p v : ℕ) → Holds d b log p (SupervoxelRow v) → has b.supervoxels v ≡ true

@@ -6,7 +6,6 @@ pub mod StoreLaw
 pub mod HeaderLemmas
 pub mod ToldLaws
 pub mod LayerIds
-pub mod LeastLemmas
 pub mod Listings
 pub mod DifferLemmas
 pub mod OnceLemmas
@@ -23,10 +22,12 @@ pub mod BaseCounts
 pub mod ImageFacts
 pub mod BaseRows
 pub mod PrefixNodes
+pub mod FirstRoots
 pub mod StoreLemmas
 pub mod RowFacts
 pub mod Picks
 pub mod NodeOrder
+pub mod EntryRecords
 pub mod ChildOrder
 pub mod NodeIds
 pub mod RunRows

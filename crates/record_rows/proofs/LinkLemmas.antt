@@ -16,7 +16,7 @@ use Rattle.op_model.specs.Valid.{IsDataset, IsBase, IsSupervoxel}
 use Rattle.op_model.specs.Legal.{Legal}
 use Rattle.graph_model.proofs.Components.{component_joined, component_in}
 use Rattle.op_model.proofs.LabelLemmas.{members_in, same_component, own_component, joined_label, label_joined, label_old, new_same}
-use Rattle.record_rows.proofs.LeastLemmas.{least_component, least_new, least_member}
+use Rattle.op_model.proofs.LabelLemmas.{least_component, least_new, least_member}
 use Rattle.op_model.proofs.LegalLemmas.{labels_fit, all_has, ascending_has, map_has}
 use Rattle.record_rows.specs.Rows.{Node, Link}
 use Rattle.record_rows.specs.Versions.{child_at}
@@ -32,7 +32,7 @@ abbrev pub Among : {X : Type 0} → X → List X → Type 0
 Among x [] = ⊥
 Among x (y ∷ ys) = (y ≡ x) ⊎ Among x ys
 
-among_has : (x : ℕ) (xs : List ℕ) → has xs x ≡ true → Among x xs
+pub among_has : (x : ℕ) (xs : List ℕ) → has xs x ≡ true → Among x xs
 among_has x [] h = absurd (false≢true h)
 among_has x (y ∷ ys) h = go (eqb y x) refl h (among_has x ys)
   where
@@ -40,21 +40,21 @@ among_has x (y ∷ ys) h = go (eqb y x) refl h (among_has x ys)
     go true e g ih = inl (eqb-true y x e)
     go false e g ih = inr (ih g)
 
-among_map : {X Y : Type 0} (f : X → Y) (x : X) (xs : List X) → Among x xs → Among (f x) (map f xs)
+pub among_map : {X Y : Type 0} (f : X → Y) (x : X) (xs : List X) → Among x xs → Among (f x) (map f xs)
 among_map f x [] a = a
 among_map f x (y ∷ ys) (inl e) = inl (ap f e)
 among_map f x (y ∷ ys) (inr a) = inr (among_map f x ys a)
 
-among_left : {X : Type 0} (x : X) (xs ys : List X) → Among x xs → Among x (xs ++ ys)
+pub among_left : {X : Type 0} (x : X) (xs ys : List X) → Among x xs → Among x (xs ++ ys)
 among_left x [] ys a = absurd a
 among_left x (y ∷ xs) ys (inl e) = inl e
 among_left x (y ∷ xs) ys (inr a) = inr (among_left x xs ys a)
 
-among_right : {X : Type 0} (x : X) (xs ys : List X) → Among x ys → Among x (xs ++ ys)
+pub among_right : {X : Type 0} (x : X) (xs ys : List X) → Among x ys → Among x (xs ++ ys)
 among_right x [] ys a = a
 among_right x (y ∷ xs) ys a = inr (among_right x xs ys a)
 
-among_flat : {X Y : Type 0} (f : X → List Y) (x : X) (y : Y) (xs : List X) → Among x xs → Among y (f x) → Among y (flat_map f xs)
+pub among_flat : {X Y : Type 0} (f : X → List Y) (x : X) (y : Y) (xs : List X) → Among x xs → Among y (f x) → Among y (flat_map f xs)
 among_flat f x y [] a b = absurd a
 among_flat f x y (z ∷ xs) (inl e) b = among_left y (f z) (flat_map f xs) (subst (λ w. Among y (f w)) (sym e) b)
 among_flat f x y (z ∷ xs) (inr a) b = among_right y (f z) (flat_map f xs) (among_flat f x y xs a b)

@@ -1,5 +1,5 @@
 -- What contracts see of a draft: new records, and pointers of records before them that are to lead to new ones.
-use Rattle.std.specs.Prelude.{ℕ, ◌+◌, ◌-◌, ◌*◌, ◌^◌, ◌<◌, ◌≤◌, List, [], ◌∷◌, ◌++◌, length, map, max}
+use Rattle.std.specs.Prelude.{ℕ, ◌+◌, ◌-◌, ◌*◌, ◌^◌, ◌<◌, ◌≤◌, List, [], ◌∷◌, ◌++◌, length, map, min}
 use Rattle.std.specs.List.{AllByRecursion, concat}
 use Rattle.record_rows.specs.Growth.{Store, stored}
 use Rattle.row_words.specs.declared.draft.DraftLink.{DraftLink}
@@ -15,9 +15,9 @@ pub record DraftRows : Type 0 where
 abbrev pub draft_rows : ℕ → List (List ℕ) → List DraftLink → ℕ → ℕ → DraftRows
 draft_rows tail rows links row_room link_room = record { tail = tail; rows = rows; links = links; row_room = row_room; link_room = link_room }
 
--- how many records a draft can have in all: their places are below 2 ^ 32, and none of them is 0
+-- how many records a draft can have in all: their places are below 2 ^ 32, and so is their number
 abbrev pub most_rows : ℕ → ℕ
-most_rows tail = 2 ^ 32 - max 1 tail
+most_rows tail = min (2 ^ 32 - tail) (2 ^ 32 - 1)
 
 -- the draft with one more record
 abbrev pub with_row : DraftRows → List ℕ → DraftRows

@@ -8,16 +8,21 @@ use pcg_base::NoMemory;
 use std::alloc::Global;
 use std::marker::Model;
 
-/// A pointer that is to lead to a new record: word `k`, from 4 to 7, of the record at `from`.
+/// A pointer of a record before the tail, and where it is to lead.
 #[derive(Clone, Copy, PartialEq, Eq, Debug, Drop)]
 pub struct DraftLink {
+    /// The record that has the pointer.
     pub from: Spot,
+    /// Which of its words the pointer is, from 4 to 7.
     pub k: u8,
+    /// The record that it is to lead to.
     pub to: Spot,
 }
 
-/// New records behind those of the words, and the pointers of those that are to lead to new ones.
-/// It begins at the tail, the place of its first record. Its memory was taken beforehand.
+/// New records behind those of the words, and pointers of those that are to be filled. The tail is
+/// the place of the first new record. Memory was taken beforehand: contracts see the records, the
+/// pointers, and for how many more of each there is room: no more records than have places below
+/// 2^32.
 #[derive(Debug, Drop)]
 pub struct Draft {
     tail: u32,

@@ -1,1 +1,4 @@
 pub mod Climbs
+pub mod EndLists
+pub mod FirstWalks
+pub mod EntryFacts

@@ -6,9 +6,14 @@
 //! counts for nothing, so no root is computed anew from the edges. They take no memory.
 //!
 //! - `nodes`: the nodes of a supervoxel at a prefix
+//! - `roots`: the roots of pairs that an entry changed
 //! - `entries`: whole entries of the log
 #![tactic(auto)]
 
+mod entries;
+mod first_roots;
 mod nodes;
+mod roots;
 
+pub use entries::entry;
 pub use nodes::{path_at, root_at};

@@ -52,7 +52,7 @@ pub fn path_at<W: Words>(w: &mut W, sv: Spot, prefix: u32) -> PathIds
 }
 
 /// The top layer, from 2 to 18.
-fn top_of<W: Words>(w: &mut W) -> u8
+pub fn top_of<W: Words>(w: &mut W) -> u8
     requires image { (d : Dataset) × (b : Base) × (log : List Entry) × ParentImage d b log (W.words w.old) }
     ensures same { w.new ≡ w.old }
     ensures is { (d : Dataset) (b : Base) (log : List Entry) → ParentImage d b log (W.words w.old) → result ≡ top d }

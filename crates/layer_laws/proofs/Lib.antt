@@ -1,0 +1,11 @@
+pub mod Repeated
+pub mod LevelLemmas
+pub mod StepLemmas
+pub mod NumberLemmas
+pub mod OrderLemmas
+pub mod PlaceLemmas
+pub mod BuildLemmas
+pub mod RemakeLemmas
+pub mod RiseLemmas
+pub mod NodesLemmas
+pub mod FirstsLemmas

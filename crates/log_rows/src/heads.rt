@@ -1,0 +1,88 @@
+//! How many entries there are, and what the record of one tells.
+
+ghost use Rattle.std.specs.Prelude.{◌≡◌, ℕ, ◌+◌, ◌*◌, ◌<◌, ◌||◌, ◌==◌, List, length, Some};
+ghost use Rattle.op_model.specs.declared.Dataset.{Dataset};
+ghost use Rattle.op_model.specs.declared.Base.{Base};
+ghost use Rattle.op_model.specs.declared.Entry.{Entry};
+ghost use Rattle.op_model.specs.Operations.{undoes, redoes, entry_at, last_about};
+ghost use Rattle.record_rows.specs.Readings.{ParentImage};
+ghost use Rattle.log_rows.specs.Entries.{AtEntry, HoldsEntry};
+ghost use Rattle.log_rows.specs.Heads.{head_of};
+
+use crate::records::{Head, before, head_at, newest, number};
+use op_model::Kind;
+use pcg_base::Words;
+use row_words::Spot;
+
+/// How many entries the log has.
+pub fn length<W: Words>(w: &mut W) -> u32
+    requires image { (d : Dataset) × (b : Base) × (log : List Entry) × ParentImage d b log (W.words w.old) }
+    ensures same { w.new ≡ w.old }
+    ensures is { (d : Dataset) (b : Base) (log : List Entry) → ParentImage d b log (W.words w.old) → result ≡ length log }
+{
+    let last = newest(w);
+    number(w, last) + 1
+}
+
+/// The place of the record of entry `n`, of which there must be one.
+pub fn entry_spot<W: Words>(w: &mut W, n: u32) -> Spot
+    requires entry { (d : Dataset) × (b : Base) × (log : List Entry) × ParentImage d b log (W.words w.old) × (n < length log) }
+    ensures same { w.new ≡ w.old }
+    ensures is { (d : Dataset) (b : Base) (log : List Entry) (e : Entry) → ParentImage d b log (W.words w.old) → entry_at log n ≡ Some e → HoldsEntry d b log result e }
+{
+    let mut spot = newest(w);
+    while number(w, spot) != n {
+        let Some(older) = before(w, spot) else {
+            return spot;
+        };
+        spot = older;
+    }
+    spot
+}
+
+/// What entry `n`, of which there must be one, is.
+pub fn head<W: Words>(w: &mut W, n: u32) -> Head
+    requires entry { (d : Dataset) × (b : Base) × (log : List Entry) × ParentImage d b log (W.words w.old) × (n < length log) }
+    ensures same { w.new ≡ w.old }
+    ensures is { (d : Dataset) (b : Base) (log : List Entry) (e : Entry) → ParentImage d b log (W.words w.old) → entry_at log n ≡ Some e → result ≡ head_of e }
+{
+    let spot = entry_spot(w, n);
+    head_at(w, spot)
+}
+
+/// The number of the last entry that is merge or split `op`, or undoes or redoes it. There must be
+/// an entry `op`; of the ingest, an undo or a redo it is the entry itself.
+pub fn last_about<W: Words>(w: &mut W, op: u32) -> u32
+    requires entry { (d : Dataset) × (b : Base) × (log : List Entry) × ParentImage d b log (W.words w.old) × (op < length log) }
+    ensures same { w.new ≡ w.old }
+    ensures is { (d : Dataset) (b : Base) (log : List Entry) → ParentImage d b log (W.words w.old) → (e : Entry) × (last_about log op ≡ Some e) × (result ≡ e.number) }
+{
+    let mut spot = newest(w);
+    while !is_about(w, spot, op) {
+        let Some(older) = before(w, spot) else {
+            return number(w, spot);
+        };
+        spot = older;
+    }
+    number(w, spot)
+}
+
+/// Whether the entry whose record stands there is entry `op`, or undoes or redoes it.
+fn is_about<W: Words>(w: &mut W, entry: Spot, op: u32) -> bool
+    requires entry { AtEntry (W.words w.old) entry }
+    ensures same { w.new ≡ w.old }
+    ensures is { (d : Dataset) (b : Base) (log : List Entry) (e : Entry) → ParentImage d b log (W.words w.old) → HoldsEntry d b log entry e → result ≡ (e.number == op || undoes e.asked op || redoes e.asked op) }
+{
+    let head = head_at(w, entry);
+    number(w, entry) == op || turns(head, op)
+}
+
+/// Whether an entry with this head undoes or redoes `op`.
+fn turns(head: Head, op: u32) -> bool
+    ensures { (e : Entry) → head ≡ head_of e → result ≡ (undoes e.asked op || redoes e.asked op) }
+{
+    match head.kind {
+        Kind::Undo | Kind::Redo => head.names == op as u64,
+        _ => false,
+    }
+}

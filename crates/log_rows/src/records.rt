@@ -1,0 +1,100 @@
+//! The record of one entry, and the way to the entry before.
+
+ghost use Rattle.std.specs.Prelude.{◌≡◌, ℕ, List, ◌-◌, length};
+ghost use Rattle.op_model.specs.declared.Dataset.{Dataset};
+ghost use Rattle.op_model.specs.declared.Base.{Base};
+ghost use Rattle.op_model.specs.declared.Asked.{Asked};
+ghost use Rattle.op_model.specs.declared.Entry.{Entry};
+ghost use Rattle.op_model.specs.Answers.{kind_of};
+ghost use Rattle.record_rows.specs.Chains.{entry_before};
+ghost use Rattle.record_rows.specs.Words.{kind_code};
+ghost use Rattle.record_rows.specs.LogRows.{rows_of};
+ghost use Rattle.record_rows.specs.Readings.{ParentImage, first_place};
+ghost use Rattle.log_rows.specs.Entries.{AtEntry, HoldsEntry};
+ghost use Rattle.log_rows.specs.Heads.{head_of};
+
+use op_model::Kind;
+use pcg_base::Words;
+use row_words::{Spot, fixed, pointer};
+
+/// What an entry's record tells of it, but for its number.
+#[derive(Clone, Copy, PartialEq, Eq, Debug, Drop)]
+pub struct Head {
+    /// The entry's timestamp in milliseconds.
+    pub at: u64,
+    /// The client that asked it, counted from 1; 0 for the ingest.
+    pub client: u32,
+    /// The client's line that asked it, counted from 1; 0 for the ingest.
+    pub line: u32,
+    /// What the entry is.
+    pub kind: Kind,
+    /// The operation that an undo or a redo names; 0 for any other entry.
+    pub names: u64,
+}
+
+/// The place of the last record, which is that of the newest entry.
+pub fn newest<W: Words>(w: &W) -> Spot
+    requires image { (d : Dataset) × (b : Base) × (log : List Entry) × ParentImage d b log (W.words w.now) }
+    ensures is { (d : Dataset) (b : Base) (log : List Entry) → ParentImage d b log (W.words w.now) → result ≡ length (rows_of d b log) - 1 }
+{
+    Spot((w.len() / 8 - 1) as u32)
+}
+
+/// The number of the entry whose record stands there.
+pub fn number<W: Words>(w: &mut W, entry: Spot) -> u32
+    requires entry { AtEntry (W.words w.old) entry }
+    ensures same { w.new ≡ w.old }
+    ensures is { (d : Dataset) (b : Base) (log : List Entry) (e : Entry) → ParentImage d b log (W.words w.old) → HoldsEntry d b log entry e → result ≡ e.number }
+{
+    fixed(w, entry, 3) as u32
+}
+
+/// The timestamp of the entry whose record stands there, in milliseconds.
+pub fn time<W: Words>(w: &mut W, entry: Spot) -> u64
+    requires entry { AtEntry (W.words w.old) entry }
+    ensures same { w.new ≡ w.old }
+    ensures is { (d : Dataset) (b : Base) (log : List Entry) (e : Entry) → ParentImage d b log (W.words w.old) → HoldsEntry d b log entry e → result ≡ e.at }
+{
+    fixed(w, entry, 1)
+}
+
+/// The place of the record of the entry before; `None` for the first entry.
+pub fn before<W: Words>(w: &mut W, entry: Spot) -> Option<Spot>
+    requires entry { AtEntry (W.words w.old) entry }
+    ensures same { w.new ≡ w.old }
+    ensures is { (d : Dataset) (b : Base) (log : List Entry) (e : Entry) → ParentImage d b log (W.words w.old) → HoldsEntry d b log entry e → result ≡ first_place (entry_before e.number) (rows_of d b log) }
+{
+    pointer(w, entry, 6)
+}
+
+/// What the entry is whose record stands there.
+pub fn head_at<W: Words>(w: &mut W, entry: Spot) -> Head
+    requires entry { AtEntry (W.words w.old) entry }
+    ensures same { w.new ≡ w.old }
+    ensures is { (d : Dataset) (b : Base) (log : List Entry) (e : Entry) → ParentImage d b log (W.words w.old) → HoldsEntry d b log entry e → result ≡ head_of e }
+{
+    let first = fixed(w, entry, 0);
+    let at = fixed(w, entry, 1);
+    let asker = fixed(w, entry, 2);
+    Head {
+        at,
+        client: (asker >> 32) as u32,
+        line: (asker % 4294967296) as u32,
+        kind: kind_at((first >> 8) % 256),
+        names: first >> 32,
+    }
+}
+
+/// What the code in an entry's record stands for.
+fn kind_at(code: u64) -> Kind
+    requires kind { (asked : Asked) × (code ≡ kind_code asked) }
+    ensures is { (asked : Asked) → code ≡ kind_code asked → result ≡ kind_of asked }
+{
+    match code {
+        0 => Kind::Ingest,
+        1 => Kind::Merge,
+        2 => Kind::Split,
+        3 => Kind::Undo,
+        _ => Kind::Redo,
+    }
+}
