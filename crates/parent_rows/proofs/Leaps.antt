@@ -1,5 +1,5 @@
 -- Steps within a run: the nodes that one entry made in one chunk.
-use Rattle.std.proofs.Common.{◌≡◌, ℕ, ◌+◌, ◌-◌, ◌*◌, ◌%◌, ◌^◌, ◌<◌, ◌≤◌, zero, suc, true, false, List, [], ◌∷◌, length, get_or, Option, Some, refl, sym, ◌∙◌, ap, subst, arith}
+use Rattle.std.proofs.Common.{◌≡◌, ℕ, ◌+◌, ◌-◌, ◌*◌, ◌%◌, ◌^◌, ◌<◌, ◌≤◌, zero, suc, List, [], ◌∷◌, length, get_or, Option, Some, refl, sym, ◌∙◌, ap, arith}
 use Rattle.node_ids.specs.Ids.{LayoutForm, parts_of}
 use Rattle.op_model.specs.declared.Dataset.{Dataset}
 use Rattle.op_model.specs.declared.Base.{Base}
@@ -14,7 +14,7 @@ use Rattle.std.specs.List.{slice_get}
 use Rattle.std.proofs.lemmas.Option.{slice_get_within}
 use Rattle.record_rows.proofs.RunRows.{between}
 use Rattle.parent_rows.proofs.NodeWalks.{child_link, child_first}
-use Rattle.record_rows.proofs.ImageFacts.{within, told_fixed}
+use Rattle.record_rows.proofs.ImageFacts.{told_fixed}
 use Rattle.record_rows.proofs.NodeIds.{node_chunk}
 use Rattle.record_rows.specs.Inner.{IsInner}
 use Rattle.parent_rows.proofs.Told.{node_id}

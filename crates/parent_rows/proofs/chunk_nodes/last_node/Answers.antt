@@ -51,16 +51,16 @@ pub loop-at-preserved : goal.loop-at-preserved
 loop-at-preserved g c = (
   c.next_node-at.ensures.same ∙ (c.leap-last.ensures.same ∙ c.loop-at.invariant.0),
   λ d b log x i h.
-    let inv = c.loop-at.invariant in
-    let at = inv.1 d b log x i h in
-    let n = chunk_node (rows_of d b log) x c.in-Some.node c.in-Some.is at.0 in
-    let i0 = image_kept g.W.Words.words d b log inv.0 i in
-    let small = node_most d b log i.dataset i.base i.legal c.in-Some.node n.0 n.1 in
-    let m = c.leap-last.ensures.is d b log n.0 i0 n.1 small in
-    let i1 = image_kept g.W.Words.words d b log c.leap-last.ensures.same i0 in
-    last_leap (node_in x) (rows_of d b log) c.in-Some.node c.leap-last.result c.loop-at.found (NodeRow m.0) c.in-Some.is m.4 m.1 (node_passes x m.0 (m.2 ∙ n.2))
-    (c.next_node-at.ensures.is d b log m.0 i1 m.1 ∙ ap (λ y. next_place (node_in y) (rows_of d b log) c.leap-last.result) (m.2 ∙ n.2))
-    at,
+      let inv = c.loop-at.invariant in
+      let at = inv.1 d b log x i h in
+      let n = chunk_node (rows_of d b log) x c.in-Some.node c.in-Some.is at.0 in
+      let i0 = image_kept g.W.Words.words d b log inv.0 i in
+      let small = node_most d b log i.dataset i.base i.legal c.in-Some.node n.0 n.1 in
+      let m = c.leap-last.ensures.is d b log n.0 i0 n.1 small in
+      let i1 = image_kept g.W.Words.words d b log c.leap-last.ensures.same i0 in
+      last_leap (node_in x) (rows_of d b log) c.in-Some.node c.leap-last.result c.loop-at.found (NodeRow m.0) c.in-Some.is m.4 m.1 (node_passes x m.0 (m.2 ∙ n.2))
+      (c.next_node-at.ensures.is d b log m.0 i1 m.1 ∙ ap (λ y. next_place (node_in y) (rows_of d b log) c.leap-last.result) (m.2 ∙ n.2))
+      at,
 )
 
 pub returns-clause-is : goal.returns-clause-is

@@ -1,4 +1,4 @@
-use Rattle.std.proofs.Common.{◌≡◌, ◌∙◌, ◌<◌, ◌≤◌, refl, sym, subst}
+use Rattle.std.proofs.Common.{◌∙◌, ◌<◌, ◌≤◌, refl, sym, subst}
 use Rattle.record_rows.specs.Rows.{NodeRow}
 use Rattle.record_rows.specs.Chains.{node_in}
 use Rattle.record_rows.specs.LogRows.{rows_of}
@@ -108,19 +108,19 @@ pub loop-at-preserved : goal.loop-at-preserved
 loop-at-preserved g c = (
   c.next_node-at.ensures.same ∙ (c.id_of-in-Some.ensures.same ∙ (c.leap-last.ensures.same ∙ (c.id_of.ensures.same ∙ c.loop-at.invariant.0))),
   λ d b log x i h.
-    let inv = c.loop-at.invariant in
-    let at = inv.1 d b log x i h in
-    let n = chunk_node (rows_of d b log) x c.in-Some.spot c.in-Some.is at.0 in
-    let i0 = image_kept g.W.Words.words d b log inv.0 i in
-    let here = c.id_of.ensures.is d b log n.0 i0 n.1 in
-    let i1 = image_kept g.W.Words.words d b log c.id_of.ensures.same i0 in
-    let low = subst (λ k. k ≤ c.args.id) here c.if-id_of-id.false in
-    let m = c.leap-last.ensures.is d b log n.0 i1 n.1 low in
-    let i2 = image_kept g.W.Words.words d b log c.leap-last.ensures.same i1 in
-    let there = c.id_of-in-Some.ensures.is d b log m.0 i2 m.1 in
-    let i3 = image_kept g.W.Words.words d b log c.id_of-in-Some.ensures.same i2 in
-    let leapt = node_leap d b i.dataset i.base log x c.args.id c.in-Some.spot c.leap-last.result m.0 m.4 m.1 (m.2 ∙ n.2) m.3 c.in-Some.is at in
-    node_step (rows_of d b log) x c.args.id c.leap-last.result m.0 (m.1, m.2 ∙ n.2) (λ e. c.if-id_of-id-2.false (there ∙ e)) refl (c.next_node-at.ensures.is d b log m.0 i3 m.1) leapt,
+      let inv = c.loop-at.invariant in
+      let at = inv.1 d b log x i h in
+      let n = chunk_node (rows_of d b log) x c.in-Some.spot c.in-Some.is at.0 in
+      let i0 = image_kept g.W.Words.words d b log inv.0 i in
+      let here = c.id_of.ensures.is d b log n.0 i0 n.1 in
+      let i1 = image_kept g.W.Words.words d b log c.id_of.ensures.same i0 in
+      let low = subst (λ k. k ≤ c.args.id) here c.if-id_of-id.false in
+      let m = c.leap-last.ensures.is d b log n.0 i1 n.1 low in
+      let i2 = image_kept g.W.Words.words d b log c.leap-last.ensures.same i1 in
+      let there = c.id_of-in-Some.ensures.is d b log m.0 i2 m.1 in
+      let i3 = image_kept g.W.Words.words d b log c.id_of-in-Some.ensures.same i2 in
+      let leapt = node_leap d b i.dataset i.base log x c.args.id c.in-Some.spot c.leap-last.result m.0 m.4 m.1 (m.2 ∙ n.2) m.3 c.in-Some.is at in
+      node_step (rows_of d b log) x c.args.id c.leap-last.result m.0 (m.1, m.2 ∙ n.2) (λ e. c.if-id_of-id-2.false (there ∙ e)) refl (c.next_node-at.ensures.is d b log m.0 i3 m.1) leapt,
 )
 
 pub returns-clause-is : goal.returns-clause-is

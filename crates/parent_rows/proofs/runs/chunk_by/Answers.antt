@@ -1,4 +1,4 @@
-use Rattle.std.proofs.Common.{◌≡◌, ◌≤◌, sym, subst}
+use Rattle.std.proofs.Common.{◌≤◌, sym, subst}
 use Rattle.parent_rows.proofs.Sought.{segment_low}
 use Rattle.parent_rows.proofs.runs.chunk_by.Goals as goal
 

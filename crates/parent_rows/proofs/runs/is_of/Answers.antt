@@ -1,4 +1,4 @@
-use Rattle.std.proofs.Common.{◌≡◌, ◌∙◌, ◌+◌, ◌*◌, sym, ap, eqb-true, get_or}
+use Rattle.std.proofs.Common.{◌∙◌, ◌+◌, ◌*◌, sym, ap, eqb-true, get_or}
 use Rattle.record_rows.proofs.ImageFacts.{within}
 use Rattle.parent_rows.proofs.ChainWalks.{image_kept}
 use Rattle.parent_rows.proofs.Leaps.{node_of_chunk}

@@ -1,6 +1,4 @@
-use Rattle.std.proofs.Common.{◌≡◌, ◌∙◌, ◌≤◌, ◌<◌, ℕ, sym, ap, subst, arith}
-use Rattle.node_ids.specs.Ids.{parts_of}
-use Rattle.record_rows.proofs.NodeIds.{node_chunk}
+use Rattle.std.proofs.Common.{◌∙◌}
 use Rattle.parent_rows.proofs.ChainWalks.{image_kept}
 use Rattle.parent_rows.proofs.Leaps.{run_first, run_inner, run_on}
 use Rattle.parent_rows.proofs.runs.leap.Goals as goal
@@ -24,14 +22,14 @@ pub loop-middle-preserved-then-is_of : goal.loop-middle-preserved-then-is_of
 loop-middle-preserved-then-is_of g c = (
   c.is_of.ensures.same ∙ c.loop-middle.invariant.0,
   λ d b log n i h l.
-    let inv = c.loop-middle.invariant in
-    let run = inv.1 d b log n i h l in
-    let m = c.in-Some-middle_of.ensures in
-    let row = run_inner d b log _ i n c.args.first c.args.id c.loop-middle.low c.loop-middle.high c.in-Some-middle_of.middle h run m.0 m.1 in
-    let i1 = image_kept g.W.Words.words d b log c.first_child.ensures.same i in
-    let i2 = image_kept g.W.Words.words d b log c.layout-ids.ensures.same i1 in
-    let ids = c.layout-ids.ensures.is d b log i1 in
-    let here = c.id_of-here.ensures.is d b log n i2 h in
-    let found = c.is_of.ensures.is d b log row.0 (image_kept g.W.Words.words d b log inv.0 i) row.1 row.2 ids c.if-is_of.true in
-    run_on d b log _ i n c.args.first c.args.id c.loop-middle.low c.loop-middle.high c.in-Some-middle_of.middle h run m.0 m.1 c.chunk_by-chunk.result ids here c.chunk_by-chunk.ensures found,
+      let inv = c.loop-middle.invariant in
+      let run = inv.1 d b log n i h l in
+      let m = c.in-Some-middle_of.ensures in
+      let row = run_inner d b log _ i n c.args.first c.args.id c.loop-middle.low c.loop-middle.high c.in-Some-middle_of.middle h run m.0 m.1 in
+      let i1 = image_kept g.W.Words.words d b log c.first_child.ensures.same i in
+      let i2 = image_kept g.W.Words.words d b log c.layout-ids.ensures.same i1 in
+      let ids = c.layout-ids.ensures.is d b log i1 in
+      let here = c.id_of-here.ensures.is d b log n i2 h in
+      let found = c.is_of.ensures.is d b log row.0 (image_kept g.W.Words.words d b log inv.0 i) row.1 row.2 ids c.if-is_of.true in
+      run_on d b log _ i n c.args.first c.args.id c.loop-middle.low c.loop-middle.high c.in-Some-middle_of.middle h run m.0 m.1 c.chunk_by-chunk.result ids here c.chunk_by-chunk.ensures found,
 )
