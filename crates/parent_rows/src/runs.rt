@@ -17,7 +17,8 @@ use pcg_base::Words;
 use row_words::{Spot, fixed, kind_of};
 
 /// The last node of a node's run whose id is at most this one, which the node's own must be. It is
-/// found by halving between the node and the first link of its children.
+/// found by steps that double, and then by halving, between the node and the first link of its
+/// children.
 pub fn leap<W: Words>(w: &mut W, first: Spot, id: u64) -> Spot
     requires node { (d : Dataset) × (b : Base) × (log : List Entry) × (n : Node) × ParentImage d b log (W.words w.old) × HoldsNode d b log first n × (n.id ≤ id) }
     ensures same { w.new ≡ w.old }
@@ -31,7 +32,7 @@ pub fn leap<W: Words>(w: &mut W, first: Spot, id: u64) -> Spot
     let chunk = chunk_by(ids, here);
     let mut low = first;
     let mut high = end;
-    while let Some(middle) = middle_of(low, high) {
+    while let Some(middle) = middle_of(first, low, high) {
         if is_of(w, middle, ids, chunk, id) {
             low = middle;
         } else {
@@ -41,12 +42,15 @@ pub fn leap<W: Words>(w: &mut W, first: Spot, id: u64) -> Spot
     low
 }
 
-// a place between these two, if there is one
-fn middle_of(low: Spot, high: Spot) -> Option<Spot>
+// a place between the lower and the higher one, if there is one: at first the next one, and then
+// about twice as far from the first place each time, until half the way is less
+fn middle_of(first: Spot, low: Spot, high: Spot) -> Option<Spot>
     ensures { IfSome result (λ m. (low < m) × (m < high)) }
 {
     if low.0 < high.0 && high.0 - low.0 > 1 {
-        Some(Spot(low.0 + (high.0 - low.0) / 2))
+        let half = (high.0 - low.0) / 2;
+        let step = low.0.saturating_sub(first.0).saturating_add(1);
+        Some(Spot(low.0 + step.min(half)))
     } else {
         None
     }
