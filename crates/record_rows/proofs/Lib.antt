@@ -30,3 +30,4 @@ pub mod NodeOrder
 pub mod EntryRecords
 pub mod ChildOrder
 pub mod NodeIds
+pub mod RunRows

@@ -1,4 +1,4 @@
-use Rattle.std.proofs.Common.{◌∙◌, ◌++◌, ◌∷◌, [], sym, ap, subst}
+use Rattle.std.proofs.Common.{◌∙◌, sym, subst}
 use Rattle.op_model.specs.Valid.{IsAscending}
 use Rattle.record_rows.specs.Rows.{LinkRow}
 use Rattle.record_rows.specs.Chains.{child_of}
@@ -46,7 +46,7 @@ loop-at-preserved g c = (
       let child = c.child.ensures.is d b log l.0 (image_kept g.W.Words.words d b log inv.0 i) l.1 in
       child_step (rows_of d b log) n.id c.in-Some.link l.0 c.loop-at.list.items l.1 l.2 c.in-Some.is
       (c.next_child-at.ensures.is d b log l.0 (image_kept g.W.Words.words d b log (c.child.ensures.same ∙ inv.0) i) l.1)
-      (c.in_ok-push.ensures ∙ ap (λ x. c.loop-at.list.items ++ x ∷ []) child)
+      c.child.result child c.in_ok-push.ensures
       at,
 )
 
