@@ -1,5 +1,7 @@
 -- The words of the sample log are its image.
-use Rattle.std.proofs.Common.{◌≡◌, ℕ, ◌<◌, ◌≤◌, true, false, ltb, leb, List, [], ◌∷◌, length, refl, sym, subst, arith}
+use Rattle.std.proofs.lemmas.List.{append_assoc, at_drop_more}
+use Rattle.std.specs.List.{concat}
+use Rattle.std.proofs.Common.{◌+◌, ◌++◌, ◌∙◌, ap, drop, get_or, ◌≡◌, ℕ, ◌<◌, ◌≤◌, true, false, ltb, leb, List, [], ◌∷◌, length, refl, sym, subst, arith}
 use Rattle.std.proofs.lemmas.Bool.{leb-true, ltb-true}
 use Rattle.op_model.specs.declared.Dataset.{Dataset}
 use Rattle.op_model.specs.declared.Base.{Base}
@@ -68,3 +70,9 @@ split_change = refl
 pub change_told : (words : List ℕ) → words ≡ words_halved
     → (d : Dataset) × (b : Base) × (log : List Entry) × (entry : ℕ) × (c : Changed) × Image d b log words × HoldsChange d b log 45 entry c
 change_told words e = (data_a, base, halved, 2, record { pair = record { a = r; b = s }; active = false }, words_told words e, split_change)
+
+-- one more record behind the words
+pub one_more : (words more : List ℕ) (rows : List (List ℕ)) (k : ℕ) (none : List ℕ) (whole : List ℕ) → k < length rows → words ++ concat (drop k rows) ≡ whole → more ≡ words ++ get_or rows k none → more ++ concat (drop (k + 1) rows) ≡ whole
+one_more words more rows k none whole l w m =
+    ap (λ xs. xs ++ concat (drop (k + 1) rows)) m
+    ∙ (append_assoc words (get_or rows k none) (concat (drop (k + 1) rows)) ∙ (ap (λ xs. words ++ xs) (sym (at_drop_more concat rows k none l)) ∙ w))
