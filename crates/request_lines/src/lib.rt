@@ -13,6 +13,8 @@
 mod entries;
 mod fields;
 mod items;
+#[cfg(test)]
+mod line_tests;
 mod lines;
 mod lists;
 mod page;
