@@ -1,7 +1,5 @@
 -- Lists of JSON values, item by item.
 use Rattle.std.proofs.Common.{◌≡◌, ℕ, List, [], ◌∷◌, ◌++◌, length, Option, Some, None, refl}
-use Rattle.std.proofs.lemmas.List.{append_assoc, append-nil}
-use Rattle.serde_json.specs.Data.{Data, Items, no_items, item}
 use Rattle.serde_json.specs.View.{items_view}
 use Rattle.serde_json.specs.declared.value.Value.{Value}
 use Rattle.request_lines.specs.Fields.{all_in, id_in, two, ◌>>=◌}
@@ -14,22 +12,6 @@ behind done (Some more) = Some (done ++ more)
 -- what is read of a first item, and of those after it
 abbrev ahead : {A : Type 0} → Option A → Option (List A) → Option (List A)
 ahead o p = o >>= λ x. p >>= λ xs. Some (x ∷ xs)
-
-ahead_moves : {A : Type 0} (done : List A) (x : A) (p : Option (List A)) → behind done (ahead (Some x) p) ≡ behind (done ++ x ∷ []) p
-ahead_moves done x None = refl
-ahead_moves done x (Some xs) = rw append_assoc refl
-
--- one more item is read
-pub one_read : {A : Type 0} (form : Data → Option A) (done : List A) (d : Data) (ds : Items) (x : A) → form d ≡ Some x → behind done (all_in form (item d ds)) ≡ behind (done ++ x ∷ []) (all_in form ds)
-one_read form done d ds x e = rw e (ahead_moves done x (all_in form ds))
-
--- an item isn't of its form
-pub one_not_read : {A : Type 0} (form : Data → Option A) (done : List A) (d : Data) (ds : Items) → form d ≡ None → behind done (all_in form (item d ds)) ≡ None
-one_not_read form done d ds e = rw e refl
-
--- all items are read
-pub all_read : {A : Type 0} (form : Data → Option A) (done : List A) → behind done (all_in form no_items) ≡ Some done
-all_read form done = rw append-nil refl
 
 lone : (o : Option ℕ) → (ahead o (Some []) >>= two) ≡ None
 lone None = refl
