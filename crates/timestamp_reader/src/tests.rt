@@ -1,6 +1,6 @@
 //! What is read at every prefix of two logs, against what was worked out by a plain program.
 
-ghost use Rattle.std.specs.Prelude.{◌≡◌, ◌≤◌};
+ghost use Rattle.std.specs.Prelude.{◌≡◌, ◌≤◌, length};
 ghost use Rattle.record_rows.specs.Samples.{words_redone, words_regained};
 ghost use Rattle.timestamp_reader.specs.Sampled.{HasEntry, HasPrefix};
 
@@ -142,6 +142,57 @@ fn is_entry(
         && same
 }
 
+/// Whether the states of a pair at the prefixes, from 1 on, are these.
+fn has_states(w: &mut VecWords, a: u64, b: u64, wanted: &[Option<bool>]) -> bool
+    requires prefix { HasPrefix w.old.words (length wanted.now) }
+    ensures same { w.new ≡ w.old }
+{
+    let mut prefix = 1;
+    for state in wanted {
+        if state_of(w, a, b, prefix) != *state {
+            return false;
+        }
+        prefix += 1;
+    }
+    true
+}
+
+/// Whether the k-th supervoxel has so many edges, and so many active ones, at the prefixes.
+fn has_degrees(
+    alloc: Global,
+    w: &mut VecWords,
+    k: u32,
+    wanted: &[(usize, usize)],
+) -> Result<bool, NoMemory>
+    requires prefix { HasPrefix w.old.words (length wanted.now) }
+    requires supervoxel { (1 ≤ k) × (k ≤ 4) }
+    ensures same { w.new ≡ w.old }
+{
+    let mut prefix = 1;
+    for degree in wanted {
+        if degrees(alloc, w, k, prefix)? != *degree {
+            return Ok(false);
+        }
+        prefix += 1;
+    }
+    Ok(true)
+}
+
+/// Whether the parents of a supervoxel or a node stand at these places at the prefixes.
+fn has_parents(w: &mut VecWords, id: u64, wanted: &[Option<u32>]) -> bool
+    requires prefix { HasPrefix w.old.words (length wanted.now) }
+    ensures same { w.new ≡ w.old }
+{
+    let mut prefix = 1;
+    for place in wanted {
+        if parent_of(w, id, prefix) != *place {
+            return false;
+        }
+        prefix += 1;
+    }
+    true
+}
+
 #[tactic(auto, using(crate::proofs::Samples::redone_prefix))]
 fn redone_nodes(w: &mut VecWords) -> bool
     requires { w.old.words ≡ words_redone }
@@ -155,20 +206,28 @@ fn redone_nodes(w: &mut VecWords) -> bool
 }
 
 #[tactic(auto, using(crate::proofs::Samples::redone_prefix))]
-fn redone_states(w: &mut VecWords) -> bool
+fn redone_chains(w: &mut VecWords) -> bool
     requires { w.old.words ≡ words_redone }
     ensures same { w.new ≡ w.old }
 {
-    state_of(w, R, S, 1) == Some(false)
-        && state_of(w, R, S, 2) == Some(true)
-        && state_of(w, R, S, 3) == Some(false)
-        && state_of(w, R, S, 4) == Some(true)
-        && state_of(w, R, S, 5) == Some(false)
-        && state_of(w, P, S, 1) == None
-        && state_of(w, P, S, 2) == None
-        && state_of(w, P, S, 3) == None
-        && state_of(w, P, S, 4) == None
-        && state_of(w, P, S, 5) == None
+    has_states(
+        w,
+        R,
+        S,
+        &[
+            Some(false),
+            Some(true),
+            Some(false),
+            Some(true),
+            Some(false),
+        ],
+    ) && has_states(w, P, S, &[None, None, None, None, None])
+        && has_parents(w, S, &[Some(13), Some(24), Some(35), Some(47), Some(56)])
+        && has_parents(
+            w,
+            RIGHT + 2,
+            &[Some(15), Some(15), Some(15), Some(15), Some(15)],
+        )
 }
 
 #[tactic(auto, using(crate::proofs::Samples::redone_prefix))]
@@ -177,34 +236,9 @@ fn redone_degrees(alloc: Global, w: &mut VecWords) -> Result<bool, NoMemory>
     ensures same { w.new ≡ w.old }
 {
     Ok(
-        degrees(alloc, w, 1, 1)? == (1, 1)
-            && degrees(alloc, w, 1, 2)? == (1, 1)
-            && degrees(alloc, w, 1, 3)? == (1, 1)
-            && degrees(alloc, w, 1, 4)? == (1, 1)
-            && degrees(alloc, w, 1, 5)? == (1, 1)
-            && degrees(alloc, w, 4, 1)? == (1, 0)
-            && degrees(alloc, w, 4, 2)? == (1, 1)
-            && degrees(alloc, w, 4, 3)? == (1, 0)
-            && degrees(alloc, w, 4, 4)? == (1, 1)
-            && degrees(alloc, w, 4, 5)? == (1, 0),
+        has_degrees(alloc, w, 1, &[(1, 1), (1, 1), (1, 1), (1, 1), (1, 1)])?
+            && has_degrees(alloc, w, 4, &[(1, 0), (1, 1), (1, 0), (1, 1), (1, 0)])?,
     )
-}
-
-#[tactic(auto, using(crate::proofs::Samples::redone_prefix))]
-fn redone_parents(w: &mut VecWords) -> bool
-    requires { w.old.words ≡ words_redone }
-    ensures same { w.new ≡ w.old }
-{
-    parent_of(w, S, 1) == Some(13)
-        && parent_of(w, S, 2) == Some(24)
-        && parent_of(w, S, 3) == Some(35)
-        && parent_of(w, S, 4) == Some(47)
-        && parent_of(w, S, 5) == Some(56)
-        && parent_of(w, RIGHT + 2, 1) == Some(15)
-        && parent_of(w, RIGHT + 2, 2) == Some(15)
-        && parent_of(w, RIGHT + 2, 3) == Some(15)
-        && parent_of(w, RIGHT + 2, 4) == Some(15)
-        && parent_of(w, RIGHT + 2, 5) == Some(15)
 }
 
 #[tactic(auto, using(crate::proofs::Samples::redone_entry))]
@@ -226,9 +260,8 @@ fn redone_at_every_prefix(rt: HostRuntime) -> Result<(), NoMemory> {
     let alloc = rt.alloc();
     let mut w = redone(alloc)?;
     assert!(rt; redone_nodes(&mut w));
-    assert!(rt; redone_states(&mut w));
+    assert!(rt; redone_chains(&mut w));
     assert!(rt; redone_degrees(alloc, &mut w)?);
-    assert!(rt; redone_parents(&mut w));
     assert!(rt; redone_entries(alloc, &mut w)?);
     Ok(())
 }
@@ -247,22 +280,43 @@ fn regained_nodes(w: &mut VecWords) -> bool
 }
 
 #[tactic(auto, using(crate::proofs::Samples::regained_prefix))]
-fn regained_states(w: &mut VecWords) -> bool
+fn regained_chains(w: &mut VecWords) -> bool
     requires { w.old.words ≡ words_regained }
     ensures same { w.new ≡ w.old }
 {
-    state_of(w, R, S, 1) == Some(false)
-        && state_of(w, R, S, 2) == Some(true)
-        && state_of(w, R, S, 3) == Some(false)
-        && state_of(w, R, S, 4) == Some(false)
-        && state_of(w, R, S, 5) == Some(true)
-        && state_of(w, R, S, 6) == Some(false)
-        && state_of(w, P, S, 1) == Some(false)
-        && state_of(w, P, S, 2) == Some(false)
-        && state_of(w, P, S, 3) == Some(false)
-        && state_of(w, P, S, 4) == Some(true)
-        && state_of(w, P, S, 5) == Some(true)
-        && state_of(w, P, S, 6) == Some(true)
+    has_states(
+        w,
+        R,
+        S,
+        &[
+            Some(false),
+            Some(true),
+            Some(false),
+            Some(false),
+            Some(true),
+            Some(false),
+        ],
+    ) && has_states(
+        w,
+        P,
+        S,
+        &[
+            Some(false),
+            Some(false),
+            Some(false),
+            Some(true),
+            Some(true),
+            Some(true),
+        ],
+    ) && has_parents(
+        w,
+        S,
+        &[Some(13), Some(24), Some(35), Some(47), Some(59), Some(68)],
+    ) && has_parents(
+        w,
+        RIGHT + 2,
+        &[Some(15), Some(15), Some(15), Some(15), Some(15), Some(15)],
+    )
 }
 
 #[tactic(auto, using(crate::proofs::Samples::regained_prefix))]
@@ -271,38 +325,18 @@ fn regained_degrees(alloc: Global, w: &mut VecWords) -> Result<bool, NoMemory>
     ensures same { w.new ≡ w.old }
 {
     Ok(
-        degrees(alloc, w, 1, 1)? == (1, 1)
-            && degrees(alloc, w, 1, 2)? == (1, 1)
-            && degrees(alloc, w, 1, 3)? == (1, 1)
-            && degrees(alloc, w, 1, 4)? == (2, 2)
-            && degrees(alloc, w, 1, 5)? == (2, 2)
-            && degrees(alloc, w, 1, 6)? == (2, 2)
-            && degrees(alloc, w, 4, 1)? == (1, 0)
-            && degrees(alloc, w, 4, 2)? == (1, 1)
-            && degrees(alloc, w, 4, 3)? == (1, 0)
-            && degrees(alloc, w, 4, 4)? == (2, 1)
-            && degrees(alloc, w, 4, 5)? == (2, 2)
-            && degrees(alloc, w, 4, 6)? == (2, 1),
+        has_degrees(
+            alloc,
+            w,
+            1,
+            &[(1, 1), (1, 1), (1, 1), (2, 2), (2, 2), (2, 2)],
+        )? && has_degrees(
+            alloc,
+            w,
+            4,
+            &[(1, 0), (1, 1), (1, 0), (2, 1), (2, 2), (2, 1)],
+        )?,
     )
-}
-
-#[tactic(auto, using(crate::proofs::Samples::regained_prefix))]
-fn regained_parents(w: &mut VecWords) -> bool
-    requires { w.old.words ≡ words_regained }
-    ensures same { w.new ≡ w.old }
-{
-    parent_of(w, S, 1) == Some(13)
-        && parent_of(w, S, 2) == Some(24)
-        && parent_of(w, S, 3) == Some(35)
-        && parent_of(w, S, 4) == Some(47)
-        && parent_of(w, S, 5) == Some(59)
-        && parent_of(w, S, 6) == Some(68)
-        && parent_of(w, RIGHT + 2, 1) == Some(15)
-        && parent_of(w, RIGHT + 2, 2) == Some(15)
-        && parent_of(w, RIGHT + 2, 3) == Some(15)
-        && parent_of(w, RIGHT + 2, 4) == Some(15)
-        && parent_of(w, RIGHT + 2, 5) == Some(15)
-        && parent_of(w, RIGHT + 2, 6) == Some(15)
 }
 
 #[tactic(auto, using(crate::proofs::Samples::regained_entry))]
@@ -325,9 +359,8 @@ fn regained_at_every_prefix(rt: HostRuntime) -> Result<(), NoMemory> {
     let alloc = rt.alloc();
     let mut w = regained(alloc)?;
     assert!(rt; regained_nodes(&mut w));
-    assert!(rt; regained_states(&mut w));
+    assert!(rt; regained_chains(&mut w));
     assert!(rt; regained_degrees(alloc, &mut w)?);
-    assert!(rt; regained_parents(&mut w));
     assert!(rt; regained_entries(alloc, &mut w)?);
     Ok(())
 }
