@@ -145,6 +145,7 @@ fn is_entry(
 /// Whether the states of a pair at the prefixes, from 1 on, are these.
 fn has_states(w: &mut VecWords, a: u64, b: u64, wanted: &[Option<bool>]) -> bool
     requires prefix { HasPrefix w.old.words (length wanted.now) }
+    requires few { length wanted.now ≤ 6 }
     ensures same { w.new ≡ w.old }
 {
     let mut prefix = 1;
@@ -165,6 +166,7 @@ fn has_degrees(
     wanted: &[(usize, usize)],
 ) -> Result<bool, NoMemory>
     requires prefix { HasPrefix w.old.words (length wanted.now) }
+    requires few { length wanted.now ≤ 6 }
     requires supervoxel { (1 ≤ k) × (k ≤ 4) }
     ensures same { w.new ≡ w.old }
 {
@@ -181,6 +183,7 @@ fn has_degrees(
 /// Whether the parents of a supervoxel or a node stand at these places at the prefixes.
 fn has_parents(w: &mut VecWords, id: u64, wanted: &[Option<u32>]) -> bool
     requires prefix { HasPrefix w.old.words (length wanted.now) }
+    requires few { length wanted.now ≤ 6 }
     ensures same { w.new ≡ w.old }
 {
     let mut prefix = 1;
