@@ -1,65 +1,20 @@
 -- The sample log in which r and s are merged, its words, and some of its records.
-use Rattle.std.proofs.Common.{◌≡◌, ℕ, ◌<◌, ◌≤◌, true, ltb, leb, List, [], ◌∷◌, refl, sym, subst, arith}
-use Rattle.std.proofs.lemmas.Bool.{leb-true, ltb-true}
+use Rattle.std.proofs.Common.{◌≡◌, ℕ, List, [], ◌∷◌, refl, sym, subst}
 use Rattle.op_model.specs.declared.Dataset.{Dataset}
 use Rattle.op_model.specs.declared.Base.{Base}
 use Rattle.op_model.specs.declared.Entry.{Entry}
-use Rattle.op_model.specs.Legal.{Legal}
-use Rattle.op_model.specs.Samples.{p, q, r, s, join, base, data_a, merged}
-use Rattle.op_model.specs.Valid.{IsDataset, IsBase}
+use Rattle.op_model.specs.Samples.{p, q, r, s, base, data_a, merged}
 use Rattle.op_model.proofs.Opened.{definitions}
-use Rattle.record_rows.specs.Readings.{Image, ParentImage, HoldsChunk, HoldsNode, HoldsId}
+use Rattle.record_rows.specs.Readings.{ParentImage, HoldsChunk, HoldsNode, HoldsId}
 use Rattle.record_rows.specs.Rows.{SupervoxelRow, NodeRow, Node}
 use Rattle.record_rows.specs.Samples.{words_merged}
 use Rattle.record_rows.proofs.ImageFacts.{parent_image}
 use Rattle.record_rows.proofs.Opened.{row_definitions}
-
-at_most : (m n : ℕ) → leb m n ≡ true → m ≤ n
-at_most m n e = leb-true m n e
-
-below : (m n : ℕ) → ltb m n ≡ true → m < n
-below m n e = ltb-true m n e
-
-is_dataset : IsDataset data_a
-is_dataset = record {
-  layout = (omega arith, omega arith, omega arith, omega arith);
-  x = (omega arith, omega arith, omega arith);
-  y = (omega arith, omega arith, omega arith);
-  z = (omega arith, omega arith, omega arith);
-  merge_affinity = (omega arith, omega arith);
-  capacity = (omega arith, omega arith);
-}
-
-is_base : IsBase data_a base
-unfolding definitions
-is_base = record {
-  ascending = (below p q refl, (below q r refl, (below r s refl, tt)));
-  supervoxels = ((refl, below _ _ refl, below _ _ refl, below _ _ refl, at_most _ _ refl), ((refl, below _ _ refl, below _ _ refl, below _ _ refl, at_most _ _ refl), ((refl, below _ _ refl, below _ _ refl, below _ _ refl, at_most _ _ refl), ((refl, below _ _ refl, below _ _ refl, below _ _ refl, at_most _ _ refl), tt))));
-  edges = ((below _ _ refl, refl, refl, (at_most _ _ refl, below _ _ refl)), ((below _ _ refl, refl, refl, (at_most _ _ refl, below _ _ refl)), ((below _ _ refl, refl, refl, (at_most _ _ refl, below _ _ refl)), tt)));
-  once = (refl, (refl, (refl, tt)));
-}
-
-is_legal : Legal data_a base merged
-unfolding definitions
-is_legal = (
-  (join r s, refl, refl, below _ _ refl, below _ _ refl),
-  (refl, below _ _ refl, ((below _ _ refl, (below _ _ refl, (below _ _ refl, (below _ _ refl, tt)))), ((below _ _ refl, (below _ _ refl, (below _ _ refl, (below _ _ refl, tt)))), tt))),
-)
-
-image : Image data_a base merged words_merged
-unfolding definitions row_definitions
-image = record {
-  dataset = is_dataset;
-  base = is_base;
-  legal = is_legal;
-  numbers = ((below _ _ refl, below _ _ refl), ((below _ _ refl, below _ _ refl), tt));
-  fits = at_most _ _ refl;
-  stands = refl;
-}
+use Rattle.row_samples.proofs.SampleImages.{merged_image}
 
 -- the words are the image of the log
 pub sample : {words : List ℕ} → words ≡ words_merged → ParentImage data_a base merged words
-sample e = subst (ParentImage data_a base merged) (sym e) (parent_image data_a base merged words_merged image)
+sample e = subst (ParentImage data_a base merged) (sym e) (parent_image data_a base merged words_merged merged_image)
 
 node_of : ℕ → ℕ → ℕ → List ℕ → Node
 node_of id chunk made leaves = record { id = id; chunk = chunk; leaves = leaves; made = made }
