@@ -4,19 +4,18 @@ ghost use Rattle.std.specs.Prelude.{◌≡◌, ℕ, ◌≤◌, ◌-◌, ◌/◌,
 ghost use Rattle.op_model.specs.declared.Dataset.{Dataset};
 ghost use Rattle.op_model.specs.declared.Base.{Base};
 ghost use Rattle.op_model.specs.declared.Entry.{Entry};
-ghost use Rattle.record_rows.specs.Rows.{Node};
 ghost use Rattle.record_rows.specs.Chains.{has_id};
 ghost use Rattle.record_rows.specs.LogRows.{rows_of};
-ghost use Rattle.record_rows.specs.Readings.{HoldsChunk, HoldsNode, ParentImage, first_place};
+ghost use Rattle.record_rows.specs.Readings.{HoldsChunk, ParentImage, first_place};
 ghost use Rattle.record_rows.specs.Sorted.{supervoxel_count};
 ghost use Rattle.record_rows.specs.Walks.{is_chunk};
 ghost use Rattle.parent_rows.specs.Steps.{is_node_of};
 
 use crate::chunk_nodes::{first_node, next_node};
-use crate::runs::leap;
-use node_ids::{Layout, NodeId};
+use crate::nodes::id_of;
+use crate::runs::{layout, leap};
+use node_ids::NodeId;
 use pcg_base::Words;
-use record_rows::layout_of;
 use row_words::{Spot, find_sorted, fixed, supervoxel};
 
 /// The record of a supervoxel or a node; `None` exactly where no entry of the log knows the id. A
@@ -75,25 +74,6 @@ fn node_of<W: Words>(w: &mut W, chunk: Spot, id: u64) -> Option<Spot>
         at = next_node(w, last);
     }
     None
-}
-
-// a node's id
-pub fn id_of<W: Words>(w: &mut W, spot: Spot) -> u64
-    requires node { (d : Dataset) × (b : Base) × (log : List Entry) × (n : Node) × ParentImage d b log (W.words w.old) × HoldsNode d b log spot n }
-    ensures same { w.new ≡ w.old }
-    ensures is { (d : Dataset) (b : Base) (log : List Entry) (n : Node) → ParentImage d b log (W.words w.old) → HoldsNode d b log spot n → result ≡ n.id }
-{
-    fixed(w, spot, 1)
-}
-
-// the layout that the header states
-pub fn layout<W: Words>(w: &mut W) -> Layout
-    requires image { (d : Dataset) × (b : Base) × (log : List Entry) × ParentImage d b log (W.words w.old) }
-    ensures same { w.new ≡ w.old }
-    ensures is { (d : Dataset) (b : Base) (log : List Entry) → ParentImage d b log (W.words w.old) → result ≡ d.layout }
-{
-    let word = fixed(w, Spot(0), 0);
-    layout_of(word)
 }
 
 // how many supervoxels and how many chunks the header counts

@@ -10,10 +10,10 @@ ghost use Rattle.record_rows.specs.Rows.{Node, Row};
 ghost use Rattle.record_rows.specs.Readings.{Holds, HoldsNode, ParentImage};
 ghost use Rattle.node_ids.specs.Ids.{parts_of};
 
-use crate::finding::{id_of, layout};
-use crate::nodes::first_child;
+use crate::nodes::{first_child, id_of};
 use node_ids::{Layout, NodeId};
 use pcg_base::Words;
+use record_rows::layout_of;
 use row_words::{Spot, fixed, kind_of};
 
 /// The last node of a node's run whose id is at most this one, which the node's own must be. It is
@@ -75,4 +75,14 @@ fn chunk_by(ids: Layout, id: u64) -> u64
     ensures { result ≡ id - (parts_of ids id).segment }
 {
     id - ids.unpack(NodeId(id)).segment
+}
+
+// the layout that the header states
+pub fn layout<W: Words>(w: &mut W) -> Layout
+    requires image { (d : Dataset) × (b : Base) × (log : List Entry) × ParentImage d b log (W.words w.old) }
+    ensures same { w.new ≡ w.old }
+    ensures is { (d : Dataset) (b : Base) (log : List Entry) → ParentImage d b log (W.words w.old) → result ≡ d.layout }
+{
+    let word = fixed(w, Spot(0), 0);
+    layout_of(word)
 }

@@ -1,6 +1,6 @@
 use Rattle.std.proofs.Common.{◌∙◌}
 use Rattle.parent_rows.proofs.Told.{node_id}
-use Rattle.parent_rows.proofs.finding.id_of.Goals as goal
+use Rattle.parent_rows.proofs.nodes.id_of.Goals as goal
 
 pub fixed-requires-clause-within : goal.fixed-requires-clause-within
 fixed-requires-clause-within g c = let r = c.requires.node in (node_id r.0 r.1 r.2 _ r.4 c.args.spot r.3 r.5).0

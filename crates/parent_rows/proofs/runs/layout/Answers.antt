@@ -1,7 +1,7 @@
 use Rattle.std.proofs.Common.{◌∙◌}
 use Rattle.record_rows.proofs.ToldLaws.{headers_state}
 use Rattle.parent_rows.proofs.Sought.{header_within}
-use Rattle.parent_rows.proofs.finding.layout.Goals as goal
+use Rattle.parent_rows.proofs.runs.layout.Goals as goal
 
 pub fixed-word-requires-clause-within : goal.fixed-word-requires-clause-within
 fixed-word-requires-clause-within g c = let r = c.requires.image in header_within r.0 r.1 r.2 _ r.3
