@@ -8,18 +8,21 @@ use Rattle.op_model.specs.declared.Base.{Base}
 use Rattle.op_model.specs.declared.Pair.{Pair}
 use Rattle.op_model.specs.declared.Edge.{Edge}
 use Rattle.op_model.specs.declared.Entry.{Entry}
-use Rattle.op_model.specs.Samples.{base, data_a, redone, regained}
+use Rattle.op_model.specs.Samples.{base, data_a, ingested, redone, regained}
 use Rattle.record_rows.specs.Rows.{Row, HeaderRow, EdgeRow}
 use Rattle.record_rows.specs.Chains.{has_id, is_edge}
 use Rattle.record_rows.specs.LogRows.{chunks, rows_of}
 use Rattle.record_rows.specs.Readings.{Image, ParentImage, HoldsEdge, HoldsId, HoldsSupervoxel, first_place}
-use Rattle.record_rows.specs.Samples.{words_redone, words_regained}
+use Rattle.record_rows.specs.Samples.{words_ingested, words_redone, words_regained}
 use Rattle.record_rows.proofs.ImageFacts.{parent_image}
 use Rattle.record_rows.proofs.BaseRows.{supervoxel_at}
 use Rattle.record_rows.proofs.ToldLaws.{headed}
 use Rattle.record_rows.proofs.WalkLemmas.{LeadsTo, first_leads}
-use Rattle.row_samples.proofs.SampleImages.{redone_image, regained_image}
+use Rattle.row_samples.proofs.SampleImages.{ingested_image, redone_image, regained_image}
 use Rattle.timestamp_reader.specs.Sampled.{HasEntry, HasPrefix}
+
+pub ingested_prefix : (words : List ℕ) (n : ℕ) → words ≡ words_ingested → 1 ≤ n → n ≤ 1 → HasPrefix words n
+ingested_prefix words n e low high = record { log = ingested; image = subst (Image data_a base ingested) (sym e) ingested_image; low = low; high = high }
 
 pub redone_prefix : (words : List ℕ) (n : ℕ) → words ≡ words_redone → 1 ≤ n → n ≤ 5 → HasPrefix words n
 redone_prefix words n e low high = record { log = redone; image = subst (Image data_a base redone) (sym e) redone_image; low = low; high = high }

@@ -6,11 +6,12 @@ ghost use Rattle.timestamp_reader.specs.Sampled.{HasEntry, HasPrefix};
 
 use crate::{entry, path_at, root_at};
 use edge_rows::{edges_of, find_edge, state_at};
+use log_rows::{TimeRefusal, prefix_at};
 use node_ids::NodeId;
 use op_model::{Changed, Entry, Pair};
 use parent_rows::{find, parent_at};
 use pcg_base::{NoMemory, VecWords};
-use row_samples::{P, Q, R, S, redone, regained};
+use row_samples::{P, R, S, ingested, redone, regained};
 use row_words::Spot;
 use std::alloc::Global;
 use std::prelude::HostRuntime;
@@ -365,5 +366,34 @@ fn regained_at_every_prefix(rt: HostRuntime) -> Result<(), NoMemory> {
     assert!(rt; regained_chains(&mut w));
     assert!(rt; regained_degrees(alloc, &mut w)?);
     assert!(rt; regained_entries(alloc, &mut w)?);
+    Ok(())
+}
+
+/// The place of an id's record.
+fn place_of(w: &mut VecWords, id: u64) -> Option<Spot>
+    requires image { HasPrefix w.old.words 1 }
+    ensures same { w.new ≡ w.old }
+{
+    find(w, NodeId(id))
+}
+
+/// How many entries there are up to a time.
+fn entries_at(w: &mut VecWords, t: u64) -> Result<u32, TimeRefusal>
+    requires image { HasPrefix w.old.words 1 }
+    ensures same { w.new ≡ w.old }
+{
+    prefix_at(w, t)
+}
+
+#[test]
+#[tactic(auto, using(crate::proofs::Samples::ingested_prefix))]
+fn the_ingest_is_read(rt: HostRuntime) -> Result<(), NoMemory> {
+    let mut w = ingested(rt.alloc())?;
+    assert_eq!(rt; place_of(&mut w, P), Some(Spot(1)));
+    assert_eq!(rt; parent_of(&mut w, P, 1), Some(11));
+    assert_eq!(rt; place_of(&mut w, LEFT + 1), Some(Spot(11)));
+    assert!(rt; entries_at(&mut w, 999) == Err(TimeRefusal::TooEarly { first: 1000 }));
+    assert!(rt; entries_at(&mut w, 1000) == Ok(1));
+    assert!(rt; entries_at(&mut w, 1001) == Err(TimeRefusal::Unpublished { latest: 1000 }));
     Ok(())
 }
