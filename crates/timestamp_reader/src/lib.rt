@@ -11,6 +11,7 @@
 #![tactic(auto)]
 
 mod first_roots;
+mod leaves;
 mod nodes;
 mod roots;
 
