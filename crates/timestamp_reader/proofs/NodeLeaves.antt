@@ -95,7 +95,7 @@ module _ (d : Dataset) (b : Base) (valid : IsDataset d) (base : IsBase d b) wher
       same_joined (e ∷ log) log l u (λ x j. (k x).0 j) (λ x j. (k x).1 j)
 
   -- ids that are equal are those of one component
-  one_component : (e : Entry) (log : List Entry) → Legal d b (e ∷ log) → (k l v u : ℕ) → has (layers d) k ≡ true → has (layers d) l ≡ true → has b.supervoxels v ≡ true → has b.supervoxels u ≡ true
+  pub one_component : (e : Entry) (log : List Entry) → Legal d b (e ∷ log) → (k l v u : ℕ) → has (layers d) k ≡ true → has (layers d) l ≡ true → has b.supervoxels v ≡ true → has b.supervoxels u ≡ true
       → node d b (e ∷ log) k v ≡ node d b (e ∷ log) l u → component d b (e ∷ log) k v ≡ component d b (e ∷ log) l u
   unfolding node
   one_component e log legal k l v u hk hl hv hu q =
