@@ -41,7 +41,7 @@ use Rattle.timestamp_reader.proofs.NodeChildren.{Raised, node_raised}
 use Rattle.timestamp_reader.proofs.NodeLeaves.{Born, record_tells, one_component}
 
 -- the record of this id that a search leads to
-found_leaves : (rows : List Row) (id place : ℕ) (row : Row) → slice_get rows place ≡ Some row → place_leaves rows place ≡ row_leaves row
+pub found_leaves : (rows : List Row) (id place : ℕ) (row : Row) → slice_get rows place ≡ Some row → place_leaves rows place ≡ row_leaves row
 unfolding place_leaves
 found_leaves rows id place row h = ap (λ o. option_map_or row_leaves o []) h
 
@@ -194,6 +194,7 @@ module _ (d : Dataset) (b : Base) (valid : IsDataset d) (base : IsBase d b) wher
   -- what a node's children come to
   pub record Opened (log : List Entry) (n : Node) : Type 0 where
     pub whole : IsPermutation n.leaves (flat_map (id_leaves (rows_of d b log)) (children_in (rows_of d b log) n.id))
+    pub layered : 2 ≤ layer_of n.id
     pub below : AllByRecursion (λ c. layer_of c + 1 ≡ layer_of n.id) (children_in (rows_of d b log) n.id)
     pub ascending_leaves : Rises n.leaves
 
@@ -216,6 +217,7 @@ module _ (d : Dataset) (b : Base) (valid : IsDataset d) (base : IsBase d b) wher
             (subst (λ cs. IsPermutation (component d b (e ∷ older) l v) (flat_map (id_leaves (rows_of d b log)) cs)) (sym kids)
             (subst (λ g. IsPermutation (component d b (e ∷ older) l v) (flat_map (id_leaves (rows_of d b g)) (children_of d b (e ∷ older) l (component d b (e ∷ older) l v)))) (sym r.whole)
             (children_leaves r.newer e older whole l v born.layered born.known)));
+        layered = node_layer d b valid base log legal p n h;
         below =
             subst (AllByRecursion (λ c. c / 2 ^ 56 + 1 ≡ n.id / 2 ^ 56)) (sym kids)
             (subst (λ k. AllByRecursion (λ c. c / 2 ^ 56 + 1 ≡ k) (children_of d b (e ∷ older) l (component d b (e ∷ older) l v))) (sym high)

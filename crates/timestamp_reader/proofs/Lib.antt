@@ -4,5 +4,6 @@ pub mod EndLists
 pub mod FirstWalks
 pub mod LeafMeaning
 pub mod LeafParts
+pub mod LeafWalks
 pub mod NodeChildren
 pub mod NodeLeaves
