@@ -1,5 +1,5 @@
 -- Nodes opened one by one: what their links' words tell, and what was found and what waits.
-use Rattle.std.proofs.Common.{◌≡◌, ℕ, zero, suc, ◌+◌, ◌-◌, ◌*◌, ◌/◌, ◌%◌, ◌^◌, ◌<◌, ◌≤◌, Bool, true, false, eqb, List, [], ◌∷◌, ◌++◌, length, take, get_or, Option, Some, None, refl, sym, ◌∙◌, ap, ap₂, subst, inl, inr, ◌⊎◌, arith, append-nil, append_assoc}
+use Rattle.std.proofs.Common.{◌≡◌, ℕ, zero, suc, ◌+◌, ◌-◌, ◌*◌, ◌/◌, ◌%◌, ◌^◌, ◌<◌, ◌≤◌, Bool, true, false, eqb, List, [], ◌∷◌, ◌++◌, length, take, get_or, Option, Some, None, refl, sym, ◌∙◌, ap, ap₂, subst, inl, inr, ◌⊎◌, arith, eq-eqb, append-nil, append_assoc}
 use Rattle.std.specs.Prelude.{IsPermutation}
 use Rattle.std.specs.List.{AllByRecursion, All, flat_map, filter_map, slice_get, sum_by, cons_option}
 use Rattle.std.proofs.lemmas.Bool.{eqb-true, false≢true}
@@ -24,6 +24,7 @@ use Rattle.record_rows.proofs.ImageFacts.{within, below_few, told_fixed}
 use Rattle.parent_rows.proofs.NodeWalks.{AtChild, child_step, child_end}
 use Rattle.parent_rows.proofs.Told.{Tells}
 use Rattle.timestamp_reader.specs.Spreads.{AreNodes, row_leaves, place_leaves, id_leaves, spread, layer_of, weight, weights}
+use Rattle.timestamp_reader.proofs.Climbs.{id_told}
 use Rattle.timestamp_reader.proofs.ChildRows.{child_found, child_holds}
 use Rattle.timestamp_reader.proofs.LeafMeaning.{Opened, opened, found_leaves}
 
@@ -65,6 +66,15 @@ module _ (d : Dataset) (b : Base) (log : List Entry) (words : List ℕ) (i : Par
       go (inl s) = absurd (false≢true (sym t ∙ ap (λ k. eqb (k % 2 ^ 8) 2) s.0))
       go (inr n) = (n.1, n.2, n.3)
 
+-- word 1 is the id
+pub id_at_told : (d : Dataset) (b : Base) (log : List Entry) (words : List ℕ) → ParentImage d b log words → (p id : ℕ) → HoldsId d b log p id → id_at words p ≡ id
+unfolding id_at
+id_at_told d b log words i p id h = id_told d b log words i p id h
+
+pub node_id_told : (d : Dataset) (b : Base) (log : List Entry) (words : List ℕ) → ParentImage d b log words → (p : ℕ) (n : Node) → HoldsNode d b log p n → id_at words p ≡ n.id
+unfolding has_id
+node_id_told d b log words i p n h = id_at_told d b log words i p n.id (NodeRow n, h, eq-eqb n.id n.id refl)
+
 -- a supervoxel that is put to those that were found
 pub leaf_put : (rows : List Row) (found waiting : List ℕ) (p v id : ℕ) → p ≡ place_from (has_id id) 0 rows → slice_get rows p ≡ Some (SupervoxelRow v) → {more : List ℕ} → more ≡ found ++ v ∷ [] → IsPermutation (id_leaves rows id ++ spread rows found waiting) (spread rows more waiting)
 unfolding id_leaves spread row_leaves
@@ -75,16 +85,44 @@ leaf_put rows found waiting p v id e h {more = more} m =
     subst (λ xs. IsPermutation (xs ++ (found ++ rest)) (more ++ rest)) (sym one)
     (subst (λ xs. IsPermutation (v ∷ (found ++ rest)) xs) put (IsPermutation-sym _ _ (IsPermutation-middle found v rest)))
 
--- a node that is put to those that wait
-pub node_put : (rows : List Row) (found waiting : List ℕ) (p id : ℕ) → p ≡ place_from (has_id id) 0 rows → {more : List ℕ} → more ≡ waiting ++ p ∷ [] → IsPermutation (id_leaves rows id ++ spread rows found waiting) (spread rows found more)
-unfolding id_leaves spread
-node_put rows found waiting p id e {more = more} m =
+-- one more node with the others that wait
+spread_more : (rows : List Row) (found waiting : List ℕ) (p : ℕ) {more : List ℕ} → more ≡ waiting ++ p ∷ [] → IsPermutation (place_leaves rows p ++ spread rows found waiting) (spread rows found more)
+unfolding spread
+spread_more rows found waiting p {more = more} m =
     let rest : List ℕ = flat_map (place_leaves rows) waiting in
     let new : List ℕ = place_leaves rows p in
     let put : (found ++ rest) ++ new ≡ found ++ flat_map (place_leaves rows) more =
     append_assoc found rest new ∙ ap (λ xs. found ++ xs) (sym (ap (flat_map (place_leaves rows)) m ∙ (flat_map-append (place_leaves rows) waiting (p ∷ []) ∙ ap (λ xs. rest ++ xs) (append-nil new)))) in
-    subst (λ q. IsPermutation (place_leaves rows q ++ (found ++ rest)) (found ++ flat_map (place_leaves rows) more)) e
-    (subst (λ xs. IsPermutation (new ++ (found ++ rest)) xs) put (IsPermutation-append_comm new (found ++ rest)))
+    subst (λ xs. IsPermutation (new ++ (found ++ rest)) xs) put (IsPermutation-append_comm new (found ++ rest))
+
+-- a node that is put to those that wait
+pub node_put : (rows : List Row) (found waiting : List ℕ) (p id : ℕ) → p ≡ place_from (has_id id) 0 rows → {more : List ℕ} → more ≡ waiting ++ p ∷ [] → IsPermutation (id_leaves rows id ++ spread rows found waiting) (spread rows found more)
+unfolding id_leaves
+node_put rows found waiting p id e {more = more} m = subst (λ q. IsPermutation (place_leaves rows q ++ spread rows found waiting) (spread rows found more)) e (spread_more rows found waiting p m)
+
+-- a node that is taken from those that wait, and opened
+pub node_opened : (rows : List Row) (leaves found waiting : List ℕ) (p : ℕ) (n : Node) → slice_get rows p ≡ Some (NodeRow n) → {all end : List ℕ} → all ≡ waiting ++ p ∷ []
+    → IsPermutation leaves (spread rows found all) → IsPermutation (n.leaves ++ spread rows found waiting) end → IsPermutation leaves end
+unfolding row_leaves
+node_opened rows leaves found waiting p n h {all = all} {end = end} e q r =
+    let own : place_leaves rows p ≡ n.leaves = found_leaves rows n.id p (NodeRow n) h in
+    let back : IsPermutation (spread rows found all) (n.leaves ++ spread rows found waiting) =
+    IsPermutation-sym _ _ (subst (λ xs. IsPermutation (xs ++ spread rows found waiting) (spread rows found all)) own (spread_more rows found waiting p e)) in
+    IsPermutation-trans _ _ _ q (IsPermutation-trans _ _ _ back r)
+
+-- at first the node itself waits, and nothing was found
+pub spread_starts : (rows : List Row) (p : ℕ) (n : Node) → slice_get rows p ≡ Some (NodeRow n) → {found none waiting : List ℕ} → found ≡ [] → none ≡ [] → waiting ≡ none ++ p ∷ [] → IsPermutation n.leaves (spread rows found waiting)
+unfolding row_leaves spread
+spread_starts rows p n h {found = found} {none = none} {waiting = waiting} e f g =
+    let own : place_leaves rows p ++ [] ≡ n.leaves = append-nil (place_leaves rows p) ∙ found_leaves rows n.id p (NodeRow n) h in
+    let all : found ++ flat_map (place_leaves rows) waiting ≡ n.leaves =
+    ap (λ xs. xs ++ flat_map (place_leaves rows) waiting) e ∙ (ap (flat_map (place_leaves rows)) (g ∙ ap (λ xs. xs ++ p ∷ []) f) ∙ own) in
+    subst (λ xs. IsPermutation n.leaves xs) (sym all) (IsPermutation-refl n.leaves)
+
+-- at last nothing waits
+pub spread_ends : (rows : List Row) (leaves found : List ℕ) {waiting : List ℕ} → waiting ≡ [] → IsPermutation leaves (spread rows found waiting) → IsPermutation leaves found
+unfolding spread
+spread_ends rows leaves found e q = subst (λ xs. IsPermutation leaves xs) (append-nil found) (subst (λ ps. IsPermutation leaves (found ++ flat_map (place_leaves rows) ps)) e q)
 
 pub nodes_put : (d : Dataset) (b : Base) (log : List Entry) (waiting : List ℕ) (p : ℕ) (n : Node) → HoldsNode d b log p n → AreNodes d b log waiting → {more : List ℕ} → more ≡ waiting ++ p ∷ [] → AreNodes d b log more
 nodes_put d b log waiting p n h a e = subst (AreNodes d b log) (sym e) (behind waiting a)
