@@ -120,9 +120,10 @@ spread_starts rows p n h {found = found} {none = none} {waiting = waiting} e f g
     subst (λ xs. IsPermutation n.leaves xs) (sym all) (IsPermutation-refl n.leaves)
 
 -- at last nothing waits
-pub spread_ends : (rows : List Row) (leaves found : List ℕ) {waiting : List ℕ} → waiting ≡ [] → IsPermutation leaves (spread rows found waiting) → IsPermutation leaves found
+pub spread_ends : (rows : List Row) (leaves found : List ℕ) (waiting : List ℕ) → length waiting ≡ 0 → IsPermutation leaves (spread rows found waiting) → IsPermutation leaves found
 unfolding spread
-spread_ends rows leaves found e q = subst (λ xs. IsPermutation leaves xs) (append-nil found) (subst (λ ps. IsPermutation leaves (found ++ flat_map (place_leaves rows) ps)) e q)
+spread_ends rows leaves found [] e q = subst (λ xs. IsPermutation leaves xs) (append-nil found) q
+spread_ends rows leaves found (p ∷ waiting) e q = absurd (omega arith)
 
 pub nodes_put : (d : Dataset) (b : Base) (log : List Entry) (waiting : List ℕ) (p : ℕ) (n : Node) → HoldsNode d b log p n → AreNodes d b log waiting → {more : List ℕ} → more ≡ waiting ++ p ∷ [] → AreNodes d b log more
 nodes_put d b log waiting p n h a e = subst (AreNodes d b log) (sym e) (behind waiting a)

@@ -51,4 +51,4 @@ returns-clause-same g c = c.loop-spot.invariant.same
 pub returns-clause-is : goal.returns-clause-is
 returns-clause-is g c = λ d b log n i h.
     sorted_again n.leaves c.loop-spot.list.items c.sort_unstable.new.self.items (opened d b i.dataset i.base log i.legal c.args.node n h).ascending_leaves
-    (spread_ends (rows_of d b log) n.leaves c.loop-spot.list.items c.in_default.ensures.items (c.loop-spot.invariant.leaves d b log n i h)) c.sort_unstable.ensures.permutation c.sort_unstable.ensures.sorted
+    (spread_ends (rows_of d b log) n.leaves c.loop-spot.list.items c.loop-spot.waiting.items (sym c.loop-spot.waiting.ok.0 ∙ c.in_default.ensures.cases.0) (c.loop-spot.invariant.leaves d b log n i h)) c.sort_unstable.ensures.permutation c.sort_unstable.ensures.sorted
