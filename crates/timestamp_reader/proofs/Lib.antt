@@ -2,6 +2,7 @@ pub mod ChildRows
 pub mod Climbs
 pub mod EndLists
 pub mod FirstWalks
+pub mod LeafLaws
 pub mod LeafMeaning
 pub mod LeafParts
 pub mod LeafWalks

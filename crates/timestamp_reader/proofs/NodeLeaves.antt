@@ -132,7 +132,7 @@ module _ (d : Dataset) (b : Base) (valid : IsDataset d) (base : IsBase d b) wher
       (all_more (Born d b whole) (Tells d b whole) news (born_tells e (f ∷ log) legal) (news_born whole e.number))
 
   -- a node that a later entry made isn't one of an earlier log
-  later_other : (g : Entry) (newer : List Entry) (e : Entry) (log : List Entry) → Legal d b (g ∷ (newer ++ e ∷ log)) → (n : Node) → Born d b (g ∷ (newer ++ e ∷ log)) n → (l u : ℕ) → has (layers d) l ≡ true → has b.supervoxels u ≡ true
+  pub later_other : (g : Entry) (newer : List Entry) (e : Entry) (log : List Entry) → Legal d b (g ∷ (newer ++ e ∷ log)) → (n : Node) → Born d b (g ∷ (newer ++ e ∷ log)) n → (l u : ℕ) → has (layers d) l ≡ true → has b.supervoxels u ≡ true
       → n.id ≡ node d b (e ∷ log) l u → ⊥
   unfolding node
   later_other g newer e log legal n p l u hl hu q =

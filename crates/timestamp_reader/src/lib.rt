@@ -11,6 +11,7 @@
 #![tactic(auto)]
 
 mod first_roots;
+pub mod laws;
 mod leaves;
 mod nodes;
 mod roots;
