@@ -12,8 +12,10 @@
 
 mod first_roots;
 pub mod laws;
-mod leaves;
+
+mod node_leaves;
 mod nodes;
 mod roots;
 
+pub use node_leaves::leaves;
 pub use nodes::{path_at, root_at};

@@ -1,6 +1,6 @@
 use Rattle.std.proofs.Common.{◌∙◌}
 use Rattle.parent_rows.proofs.Told.{next_child_leads}
-use Rattle.timestamp_reader.proofs.leaves.next_link.Goals as goal
+use Rattle.timestamp_reader.proofs.node_leaves.next_link.Goals as goal
 
 pub pointer-requires-clause-within : goal.pointer-requires-clause-within
 pointer-requires-clause-within g c = let r = c.requires.link in (next_child_leads r.0 r.1 r.2 _ r.4 c.args.link r.3 r.5).0

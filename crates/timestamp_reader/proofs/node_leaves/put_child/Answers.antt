@@ -3,7 +3,7 @@ use Rattle.std.proofs.lemmas.Result.{on_ok_weaker}
 use Rattle.record_rows.specs.LogRows.{rows_of}
 use Rattle.parent_rows.proofs.ChainWalks.{image_kept}
 use Rattle.timestamp_reader.proofs.LeafWalks.{leaf_put, node_put, nodes_put, weight_put, id_at_told}
-use Rattle.timestamp_reader.proofs.leaves.put_child.Goals as goal
+use Rattle.timestamp_reader.proofs.node_leaves.put_child.Goals as goal
 
 pub returns-then-is_supervoxel-clause-leaves : goal.returns-then-is_supervoxel-clause-leaves
 returns-then-is_supervoxel-clause-leaves g c d b log l i h =

@@ -6,7 +6,7 @@ use Rattle.timestamp_reader.specs.Spreads.{spread, weights}
 use Rattle.timestamp_reader.proofs.LeafMeaning.{opened}
 use Rattle.timestamp_reader.proofs.LeafParts.{sorted_again}
 use Rattle.timestamp_reader.proofs.LeafWalks.{nodes_put, nodes_taken, node_opened, spread_starts, spread_ends}
-use Rattle.timestamp_reader.proofs.leaves.leaves.Goals as goal
+use Rattle.timestamp_reader.proofs.node_leaves.leaves.Goals as goal
 
 pub loop-spot-init : goal.loop-spot-init
 loop-spot-init g c = record {

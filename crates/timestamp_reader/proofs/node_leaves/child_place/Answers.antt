@@ -2,7 +2,7 @@ use Rattle.std.proofs.Common.{◌≡◌, ◌∙◌, ◌<◌, sym, subst, arith}
 use Rattle.record_rows.specs.Readings.{HoldsId}
 use Rattle.timestamp_reader.proofs.ChildRows.{child_holds}
 use Rattle.timestamp_reader.proofs.LeafWalks.{child_told}
-use Rattle.timestamp_reader.proofs.leaves.child_place.Goals as goal
+use Rattle.timestamp_reader.proofs.node_leaves.child_place.Goals as goal
 
 pub fixed-requires-clause-within : goal.fixed-requires-clause-within
 fixed-requires-clause-within g c = let r = c.requires.link in (child_told r.0 r.1 r.2 _ r.4 c.args.link r.3 r.5).0.0

@@ -8,7 +8,7 @@ use Rattle.record_rows.specs.Readings.{ParentImage, HoldsNode}
 use Rattle.record_rows.proofs.WalkLemmas.{steps_left}
 use Rattle.timestamp_reader.specs.Spreads.{AreNodes}
 use Rattle.timestamp_reader.proofs.LeafWalks.{Walked}
-use Rattle.timestamp_reader.proofs.leaves.open.Given as goal
+use Rattle.timestamp_reader.proofs.node_leaves.open.Given as goal
 
 abbrev pub invariant-loop-at : goal.invariant-loop-at
 invariant-loop-at g l = record {

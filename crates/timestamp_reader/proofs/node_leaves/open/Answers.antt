@@ -7,7 +7,7 @@ use Rattle.parent_rows.proofs.NodeWalks.{child_link, child_first}
 use Rattle.timestamp_reader.specs.Spreads.{layer_of, weight, weights}
 use Rattle.timestamp_reader.proofs.LeafMeaning.{opened}
 use Rattle.timestamp_reader.proofs.LeafWalks.{walk_starts, walk_goes, walk_ends, walk_lightens, node_id_told}
-use Rattle.timestamp_reader.proofs.leaves.open.Goals as goal
+use Rattle.timestamp_reader.proofs.node_leaves.open.Goals as goal
 
 pub loop-at-init : goal.loop-at-init
 loop-at-init g c = record {

@@ -7,7 +7,7 @@ use Rattle.record_rows.specs.Rows.{Node}
 use Rattle.record_rows.specs.LogRows.{rows_of}
 use Rattle.record_rows.specs.Readings.{ParentImage, HoldsNode}
 use Rattle.timestamp_reader.specs.Spreads.{AreNodes, spread, weights}
-use Rattle.timestamp_reader.proofs.leaves.leaves.Given as goal
+use Rattle.timestamp_reader.proofs.node_leaves.leaves.Given as goal
 
 abbrev pub invariant-loop-spot : goal.invariant-loop-spot
 invariant-loop-spot g l = record {
