@@ -1,13 +1,13 @@
 -- What the records of an image tell of the chains of edges and changes.
-use Rattle.std.proofs.Common.{◌≡◌, ℕ, ◌+◌, ◌*◌, ◌<◌, ◌≤◌, ◌^◌, Bool, true, false, cond, eqb, List, length, get_or, refl, sym, ◌∙◌, ap, subst, arith, inl, inr}
-use Rattle.std.proofs.lemmas.Bool.{false≢true, or_cases, eqb-true}
+use Rattle.std.proofs.Common.{◌≡◌, ℕ, ◌+◌, ◌*◌, ◌<◌, ◌≤◌, ◌^◌, true, eqb, List, length, get_or, refl, sym, ◌∙◌, ap, arith, inl, inr}
+use Rattle.std.proofs.lemmas.Bool.{or_cases, eqb-true}
 use Rattle.op_model.specs.declared.Dataset.{Dataset}
 use Rattle.op_model.specs.declared.Base.{Base}
 use Rattle.op_model.specs.declared.Edge.{Edge}
 use Rattle.op_model.specs.declared.Changed.{Changed}
 use Rattle.op_model.specs.declared.Entry.{Entry}
 use Rattle.record_rows.specs.Rows.{Row, SupervoxelRow, EdgeRow, ChangeRow}
-use Rattle.record_rows.specs.Chains.{Nowhere, First, Next, aims, edge_at, change_of}
+use Rattle.record_rows.specs.Chains.{aims, edge_at, change_of}
 use Rattle.record_rows.specs.Words.{fixed_words}
 use Rattle.record_rows.specs.LogRows.{rows_of}
 use Rattle.record_rows.specs.Readings.{Image, Holds, HoldsSupervoxel, HoldsEdge, HoldsChange, place_of, first_place, next_place}

@@ -1,10 +1,9 @@
 -- What the records of a log tell of its edges at a prefix: the state of each pair, and the edges themselves.
-use Rattle.std.proofs.Common.{◌≡◌, ℕ, zero, suc, ◌+◌, ◌-◌, ◌<◌, ◌≤◌, ◌^◌, Bool, true, false, cond, not, ◌&&◌, ◌||◌, eqb, ltb, List, [], ◌∷◌, ◌++◌, length, map, drop, Option, Some, None, refl, sym, ◌∙◌, ap, subst, inl, inr, ◌⊎◌, arith, append-nil, lt-ltb, ap₂}
-use Rattle.std.specs.List.{AllByRecursion, slice_get, filter, filter_map, cons_option, last_or, list_any}
-use Rattle.std.proofs.lemmas.Bool.{cases_Bool, cases_lt, le-ltb, false≢true, ltb-true, or_parts}
+use Rattle.std.proofs.Common.{◌≡◌, ℕ, suc, ◌-◌, ◌<◌, ◌≤◌, ◌^◌, Bool, true, false, cond, not, ◌&&◌, ◌||◌, eqb, ltb, List, [], ◌∷◌, ◌++◌, length, map, Option, Some, None, refl, sym, ◌∙◌, ap, subst, inl, inr, ◌⊎◌, arith, append-nil, lt-ltb, ap₂}
+use Rattle.std.specs.List.{AllByRecursion, slice_get, filter, filter_map, cons_option, last_or}
+use Rattle.std.proofs.lemmas.Bool.{cases_lt, le-ltb, or_parts}
 use Rattle.std.proofs.lemmas.List.{map-append}
 use Rattle.std.proofs.lemmas.List.Elements.{filter-append, filter_map-append}
-use Rattle.std.proofs.lemmas.Option.{same_Some}
 use Rattle.std.proofs.Math.Seq.{drop-nil}
 use Rattle.op_model.specs.declared.Dataset.{Dataset}
 use Rattle.op_model.specs.declared.Base.{Base}
@@ -23,9 +22,11 @@ use Rattle.op_model.specs.Legal.{Legal}
 use Rattle.op_model.specs.Laws.{IsKnown}
 use Rattle.op_model.proofs.KnownLemmas.{legal_known}
 use Rattle.op_model.proofs.OrderLemmas.{Sorted, put_sorted, after_sorted}
-use Rattle.record_rows.specs.Rows.{Row, HeaderRow, SupervoxelRow, ChunkRow, NodeRow, LinkRow, EdgeRow, ChangeRow, ItemRow, EntryRow, Node, Link, Item}
+use Rattle.record_rows.specs.Rows.{Row, NodeRow, LinkRow, EdgeRow, ChangeRow, ItemRow, EntryRow, Node, Link, Item}
 use Rattle.record_rows.specs.LogRows.{marks, chunks, new_nodes, new_links, unknown, new_edges, entry_rows, base_rows, rows_of}
 use Rattle.record_rows.specs.Walks.{is_end, edges_at, is_active}
+use Rattle.record_rows.proofs.RowFacts.{all_at, all_base}
+use Rattle.record_rows.proofs.Picks.{picked_map, picked_none, picked_base}
 use Rattle.record_rows.proofs.DifferLemmas.{all_append, all_more, all_each, all_both, all_map, all_filter}
 use Rattle.edge_rows.proofs.EdgeLists.{known, active_put, known_put, unknown_inactive, own_state, puts_append, puts_same, given, given_sorted, given_own, made_edge, given_changed, filter_puts}
 
@@ -38,19 +39,6 @@ state_below p prefix row = None
 unfoldable pub edge_below : List Edge → ℕ → ℕ → Row → Option Edge
 edge_below es v prefix (EdgeRow made e) = cond (is_end v e && ltb made prefix) (Some (given (is_active es) e)) None
 edge_below es v prefix row = None
-
-module _ {X : Type 0} (pick : Row → Option X) where
-  picked_map : {Y : Type 0} (f : Y → Row) (xs : List Y) → filter_map pick (map f xs) ≡ filter_map (λ x. pick (f x)) xs
-  picked_map f [] = refl
-  picked_map f (x ∷ xs) = ap (cons_option (pick (f x))) (picked_map f xs)
-
-  picked_none : {Y : Type 0} (f : Y → Row) → ((x : Y) → pick (f x) ≡ None) → (xs : List Y) → filter_map pick (map f xs) ≡ []
-  picked_none f n [] = refl
-  picked_none f n (x ∷ xs) = rw (n x) (picked_none f n xs)
-
-  all_none : {Y : Type 0} (g : Y → Option X) → ((x : Y) → g x ≡ None) → (xs : List Y) → filter_map g xs ≡ []
-  all_none g n [] = refl
-  all_none g n (x ∷ xs) = rw (n x) (all_none g n xs)
 
 and_none : (t : Bool) → (t && false) ≡ false
 and_none true = refl
@@ -119,11 +107,6 @@ unknown_before p affinity (c ∷ cs) fs h =
     let e : Edge = record { pair = c.pair; weight = Affinity affinity; active = c.active } in
     (or_parts (same_pair c.pair p) (known fs p) (sym (known_put p e fs) ∙ unknown_before p affinity cs (put_edge e fs) h)).1
 
-all_at : {X : Type 0} (P : X → Type 0) (xs : List X) (k : ℕ) (x : X) → AllByRecursion P xs → slice_get xs k ≡ Some x → P x
-all_at P [] k x a h = absurd cc
-all_at P (y ∷ ys) zero x a h = subst P (same_Some y x h) a.0
-all_at P (y ∷ ys) (suc k) x a h = all_at P ys k x a.1 h
-
 module _ (d : Dataset) (b : Base) where
   -- the log at a prefix
   log_whole : (log : List Entry) (k : ℕ) → length log ≤ k → log_at d b log k ≡ log
@@ -168,29 +151,19 @@ module _ (d : Dataset) (b : Base) where
     picked_entry : (log : List Entry) (e : Entry) → filter_map pick (entry_rows d b log e) ≡ filter_map (λ x. pick (EdgeRow e.number x)) (new_edges d b log e) ++ filter_map (λ c. pick (ChangeRow e.number c)) e.changed
     unfolding entry_rows
     picked_entry log e =
-        let nodes_none : filter_map pick (map NodeRow (new_nodes d b (e ∷ log) e.number)) ≡ [] = picked_none pick NodeRow node (new_nodes d b (e ∷ log) e.number) in
-        let links_none : filter_map pick (map LinkRow (new_links d b (e ∷ log) e.number)) ≡ [] = picked_none pick LinkRow link (new_links d b (e ∷ log) e.number) in
-        let items_none : filter_map pick (map ItemRow (marks e.number e.asked)) ≡ [] = picked_none pick ItemRow item (marks e.number e.asked) in
+        let nodes_none : filter_map pick (map NodeRow (new_nodes d b (e ∷ log) e.number)) ≡ [] = picked_map pick NodeRow (new_nodes d b (e ∷ log) e.number) ∙ picked_none (λ x. pick (NodeRow x)) node (new_nodes d b (e ∷ log) e.number) in
+        let links_none : filter_map pick (map LinkRow (new_links d b (e ∷ log) e.number)) ≡ [] = picked_map pick LinkRow (new_links d b (e ∷ log) e.number) ∙ picked_none (λ x. pick (LinkRow x)) link (new_links d b (e ∷ log) e.number) in
+        let items_none : filter_map pick (map ItemRow (marks e.number e.asked)) ≡ [] = picked_map pick ItemRow (marks e.number e.asked) ∙ picked_none (λ x. pick (ItemRow x)) item (marks e.number e.asked) in
         let entry_none : pick (EntryRow e) ≡ None = entry e in
         simp (filter_map-append, nodes_none, links_none, items_none, entry_none, picked_map pick (EdgeRow e.number) (new_edges d b log e), picked_map pick (ChangeRow e.number) e.changed, append-nil)
-
-    module _ (header : (x : Dataset) (m n : ℕ) → pick (HeaderRow x m n) ≡ None) (supervoxel : (x : ℕ) → pick (SupervoxelRow x) ≡ None) (chunk : (x : ℕ) → pick (ChunkRow x) ≡ None) where
-      picked_base : filter_map pick (base_rows d b) ≡ []
-      unfolding base_rows
-      picked_base =
-          let head_none : pick (HeaderRow d (length b.supervoxels) (length (chunks d b))) ≡ None = header d _ _ in
-          let supervoxels_none : filter_map pick (map SupervoxelRow b.supervoxels) ≡ [] = picked_none pick SupervoxelRow supervoxel b.supervoxels in
-          let chunks_none : filter_map pick (map ChunkRow (chunks d b)) ≡ [] = picked_none pick ChunkRow chunk (chunks d b) in
-          ap (λ o. cons_option o (filter_map pick (map SupervoxelRow b.supervoxels ++ map ChunkRow (chunks d b)))) head_none
-          ∙ (filter_map-append pick (map SupervoxelRow b.supervoxels) (map ChunkRow (chunks d b)) ∙ rw (supervoxels_none, chunks_none) refl)
 
   -- the states that the records give a pair below a prefix are those that the log gives it there
   states_picked : (p : Pair) (prefix : ℕ) (log : List Entry) → Numbered log → filter_map (state_below p prefix) (rows_of d b log) ≡ states p (log_at d b log prefix)
   unfolding rows_of states state_below changed_states
-  states_picked p prefix [] n = picked_base (state_below p prefix) (λ x. refl) (λ x. refl) (λ x. refl) (λ x. refl) (λ x m n. refl) (λ x. refl) (λ x. refl) ∙ ap (states p) (sym (log_none prefix))
+  states_picked p prefix [] n = picked_base (state_below p prefix) d b (λ m n. refl) (λ v. refl) (λ c. refl) ∙ ap (states p) (sym (log_none prefix))
   states_picked p prefix (e ∷ log) n =
       let pick : Row → Option Bool = state_below p prefix in
-      let edges_none : filter_map (λ x. pick (EdgeRow e.number x)) (new_edges d b log e) ≡ [] = all_none pick (λ x. pick (EdgeRow e.number x)) (λ x. refl) (new_edges d b log e) in
+      let edges_none : filter_map (λ x. pick (EdgeRow e.number x)) (new_edges d b log e) ≡ [] = picked_none (λ x. pick (EdgeRow e.number x)) (λ x. refl) (new_edges d b log e) in
       filter_map-append pick (rows_of d b log) (entry_rows d b log e)
       ∙ (ap (λ bs. filter_map pick (rows_of d b log) ++ bs) (picked_entry pick (λ x. refl) (λ x. refl) (λ x. refl) (λ x. refl) log e ∙ ap (λ bs. bs ++ filter_map (λ c. pick (ChangeRow e.number c)) e.changed) edges_none)
       ∙ (ap (λ bs. bs ++ filter_map (λ c. pick (ChangeRow e.number c)) e.changed) (states_picked p prefix log n.1)
@@ -204,7 +177,7 @@ module _ (d : Dataset) (b : Base) where
           go (c ∷ cs) = rw (lt-ltb e.number prefix h, and_all (same_pair c.pair p)) (ap (cons_option (cond (same_pair c.pair p) (Some c.active) None)) (go cs))
 
       above : prefix ≤ e.number → filter_map (λ c. state_below p prefix (ChangeRow e.number c)) e.changed ≡ []
-      above h = all_none (state_below p prefix) (λ c. state_below p prefix (ChangeRow e.number c)) (λ c. rw (le-ltb e.number prefix h, and_none (same_pair c.pair p)) refl) e.changed
+      above h = picked_none (λ c. state_below p prefix (ChangeRow e.number c)) (λ c. rw (le-ltb e.number prefix h, and_none (same_pair c.pair p)) refl) e.changed
 
       last : (e.number < prefix) ⊎ (prefix ≤ e.number) → states p (log_at d b log prefix) ++ filter_map (λ c. state_below p prefix (ChangeRow e.number c)) e.changed ≡ states p (log_at d b (e ∷ log) prefix)
       last (inl h) =
@@ -235,10 +208,10 @@ module _ (d : Dataset) (b : Base) where
   edges_picked : (es : List Edge) (v prefix : ℕ) (log : List Entry) → Numbered log
       → filter_map (edge_below es v prefix) (rows_of d b log) ≡ filter (is_end v) (map (given (is_active es)) (made_edges (log_at d b log prefix)))
   unfolding rows_of made_edges edge_below given is_end
-  edges_picked es v prefix [] n = picked_base (edge_below es v prefix) (λ x. refl) (λ x. refl) (λ x. refl) (λ x. refl) (λ x m n. refl) (λ x. refl) (λ x. refl) ∙ ap (λ log. filter (is_end v) (map (given (is_active es)) (made_edges log))) (sym (log_none prefix))
+  edges_picked es v prefix [] n = picked_base (edge_below es v prefix) d b (λ m n. refl) (λ v. refl) (λ c. refl) ∙ ap (λ log. filter (is_end v) (map (given (is_active es)) (made_edges log))) (sym (log_none prefix))
   edges_picked es v prefix (e ∷ log) n =
       let pick : Row → Option Edge = edge_below es v prefix in
-      let changes_none : filter_map (λ c. pick (ChangeRow e.number c)) e.changed ≡ [] = all_none pick (λ c. pick (ChangeRow e.number c)) (λ c. refl) e.changed in
+      let changes_none : filter_map (λ c. pick (ChangeRow e.number c)) e.changed ≡ [] = picked_none (λ c. pick (ChangeRow e.number c)) (λ c. refl) e.changed in
       filter_map-append pick (rows_of d b log) (entry_rows d b log e)
       ∙ (ap (λ xs. filter_map pick (rows_of d b log) ++ xs) (picked_entry pick (λ x. refl) (λ x. refl) (λ x. refl) (λ x. refl) log e ∙ (ap (λ xs. filter_map (λ x. pick (EdgeRow e.number x)) (new_edges d b log e) ++ xs) changes_none ∙ append-nil (filter_map (λ x. pick (EdgeRow e.number x)) (new_edges d b log e))))
       ∙ (ap (λ xs. xs ++ filter_map (λ x. pick (EdgeRow e.number x)) (new_edges d b log e)) (edges_picked es v prefix log n.1)
@@ -257,7 +230,7 @@ module _ (d : Dataset) (b : Base) where
           go false ih = ih
 
       above : prefix ≤ e.number → filter_map (λ x. edge_below es v prefix (EdgeRow e.number x)) (new_edges d b log e) ≡ []
-      above h = all_none (edge_below es v prefix) (λ x. edge_below es v prefix (EdgeRow e.number x)) (λ x. rw (le-ltb e.number prefix h, and_none (is_end v x)) refl) (new_edges d b log e)
+      above h = picked_none (λ x. edge_below es v prefix (EdgeRow e.number x)) (λ x. rw (le-ltb e.number prefix h, and_none (is_end v x)) refl) (new_edges d b log e)
 
       last : (e.number < prefix) ⊎ (prefix ≤ e.number) → filter (is_end v) (map (given (is_active es)) (made_edges (log_at d b log prefix))) ++ filter_map (λ x. edge_below es v prefix (EdgeRow e.number x)) (new_edges d b log e)
           ≡ filter (is_end v) (map (given (is_active es)) (made_edges (log_at d b (e ∷ log) prefix)))
@@ -298,9 +271,7 @@ module _ (d : Dataset) (b : Base) where
       (all_append OfEdges (map (ChangeRow e.number) e.changed) _ (all_map (ChangeRow e.number) OfEdges e.changed (all_each _ e.changed (λ x. tt))) (tt, tt)))))
 
   facts_base : AllByRecursion OfEdges (base_rows d b)
-  unfolding base_rows
-  facts_base =
-      (tt, all_append OfEdges (map SupervoxelRow b.supervoxels) _ (all_map SupervoxelRow OfEdges b.supervoxels (all_each _ b.supervoxels (λ x. tt))) (all_map ChunkRow OfEdges (chunks d b) (all_each _ (chunks d b) (λ x. tt))))
+  facts_base = all_base d b OfEdges tt (all_each _ b.supervoxels (λ x. tt)) (all_each _ (chunks d b) (λ x. tt))
 
   unknown_first : (log : List Entry) (p : Pair) → known (edges d b log) p ≡ false → known (edges d b []) p ≡ false
   unfolding edges edges_after
@@ -340,7 +311,7 @@ module _ (d : Dataset) (b : Base) where
   facts_all (e ∷ f ∷ log) dataset base legal = all_append OfEdges (rows_of d b (f ∷ log)) (entry_rows d b (f ∷ log) e) (facts_all (f ∷ log) dataset base legal.1) (facts_entry (f ∷ log) e (facts_new (f ∷ log) e dataset base legal))
 
   pub edge_facts : (log : List Entry) → IsDataset d → IsBase d b → Legal d b log → (p made : ℕ) (e : Edge) → slice_get (rows_of d b log) p ≡ Some (EdgeRow made e) → EdgeFacts e
-  edge_facts log dataset base legal p made e h = all_at OfEdges (rows_of d b log) p (EdgeRow made e) (facts_all log dataset base legal) h
+  edge_facts log dataset base legal p made e h = all_at OfEdges (rows_of d b log) (facts_all log dataset base legal) p (EdgeRow made e) h
 
   -- the last change of an edge below a prefix, or else its first state, is its state at the prefix
   pub state_told : (log : List Entry) (prefix : ℕ) → IsDataset d → IsBase d b → Legal d b log → (p made : ℕ) (e : Edge) → slice_get (rows_of d b log) p ≡ Some (EdgeRow made e)

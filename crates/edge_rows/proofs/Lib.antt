@@ -7,3 +7,4 @@ pub mod StateWalks
 pub mod Placing
 pub mod Listed
 pub mod Narrow
+pub mod SampleImages

@@ -1,5 +1,5 @@
 -- The walk along the edges of a supervoxel that lists them as they are at a prefix.
-use Rattle.std.proofs.Common.{◌≡◌, ℕ, ◌<◌, Bool, true, false, cond, ◌&&◌, ◌||◌, eqb, ltb, List, [], ◌∷◌, map, Option, Some, None, refl, sym, ◌∙◌, ap, subst}
+use Rattle.std.proofs.Common.{◌≡◌, ℕ, Bool, true, false, cond, ◌&&◌, ltb, List, [], map, Option, Some, None, refl, sym, ◌∙◌, ap, subst}
 use Rattle.std.specs.List.{slice_get, filter_map, cons_option}
 use Rattle.op_model.specs.declared.Edge.{Edge}
 use Rattle.op_model.specs.Edges.{put_edge, put_edges}
@@ -8,7 +8,7 @@ use Rattle.op_model.proofs.OrderLemmas.{put_sorted}
 use Rattle.record_rows.specs.Rows.{Row, EdgeRow}
 use Rattle.record_rows.specs.Chains.{edge_at}
 use Rattle.record_rows.specs.Readings.{first_place, next_place}
-use Rattle.record_rows.specs.Walks.{is_end, edges_at, is_active}
+use Rattle.record_rows.specs.Walks.{is_end, edges_at}
 use Rattle.record_rows.proofs.WalkLemmas.{LeadsTo, from_spot, first_leads, next_leads, gather_first, gather_step}
 use Rattle.edge_rows.specs.AtPrefix.{with_state}
 use Rattle.edge_rows.proofs.EdgeLists.{given}
@@ -24,8 +24,8 @@ no_edge es v prefix row h = refl
 abbrev pub kept : List Edge → ℕ → ℕ → Edge → List Edge → List Edge
 kept es prefix made e fs = cond (ltb made prefix) (put_edge (with_state es e) fs) fs
 
-pub kept_ascends : (es : List Edge) (prefix made : ℕ) (e : Edge) (fs : List Edge) → PairsAscend (map (λ f. f.pair) fs) → PairsAscend (map (λ f. f.pair) (kept es prefix made e fs))
-kept_ascends es prefix made e fs a = go (ltb made prefix)
+pub kept_ascends : (es : List Edge) (prefix made : ℕ) (e : Edge) (fs gs : List Edge) → gs ≡ kept es prefix made e fs → PairsAscend (map (λ f. f.pair) fs) → PairsAscend (map (λ f. f.pair) gs)
+kept_ascends es prefix made e fs gs q a = subst (λ hs. PairsAscend (map (λ f. f.pair) hs)) (sym q) (go (ltb made prefix))
   where
     go : (t : Bool) → PairsAscend (map (λ f. f.pair) (cond t (put_edge (with_state es e) fs) fs))
     go true = sorted_ascend (put_edge (with_state es e) fs) (put_sorted (with_state es e) fs (ascend_sorted fs a))

@@ -1,7 +1,6 @@
 -- The first record of a chain that passes a narrower test, found on a walk along the chain.
 use Rattle.std.proofs.Common.{◌≡◌, ℕ, zero, suc, ◌+◌, ◌≤◌, Bool, true, false, cond, List, [], ◌∷◌, drop, Option, Some, None, refl, sym, ◌∙◌, ap, subst, arith}
 use Rattle.std.specs.List.{slice_get}
-use Rattle.std.proofs.lemmas.Bool.{false≢true}
 use Rattle.record_rows.specs.Rows.{Row}
 use Rattle.record_rows.specs.Words.{place_from}
 use Rattle.record_rows.specs.Readings.{place_of, first_place, next_place}

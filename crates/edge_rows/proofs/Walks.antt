@@ -1,6 +1,6 @@
 -- Walks along the edges of a supervoxel and the changes of an edge: where they stand, that they end, and what they find.
-use Rattle.std.proofs.Common.{◌≡◌, ℕ, ◌+◌, ◌*◌, ◌<◌, ◌≤◌, Bool, true, false, eqb, List, [], ◌∷◌, length, Option, Some, None, refl, sym, ◌∙◌, ap, subst, arith}
-use Rattle.std.specs.List.{slice_get, filter_map, cons_option, last_or}
+use Rattle.std.proofs.Common.{◌≡◌, ℕ, ◌+◌, ◌*◌, ◌<◌, ◌≤◌, Bool, true, false, eqb, List, Option, Some, None, refl, sym, ◌∙◌, ap, subst, arith}
+use Rattle.std.specs.List.{slice_get, last_or}
 use Rattle.std.proofs.lemmas.Bool.{false≢true, eqb-true, or_parts}
 use Rattle.op_model.specs.declared.Dataset.{Dataset}
 use Rattle.op_model.specs.declared.Base.{Base}
@@ -16,7 +16,7 @@ use Rattle.record_rows.specs.LogRows.{rows_of}
 use Rattle.record_rows.specs.Readings.{Image, HoldsSupervoxel, HoldsEdge, HoldsChange, first_place, next_place, last_place}
 use Rattle.record_rows.specs.Walks.{is_supervoxel}
 use Rattle.record_rows.specs.Sorted.{FoundAmong, supervoxel_count}
-use Rattle.record_rows.proofs.WalkLemmas.{LeadsTo, Behind, steps_left, from_spot, places_from, first_leads, next_leads, next_behind, places_first, places_step, gather_first, gather_step}
+use Rattle.record_rows.proofs.WalkLemmas.{LeadsTo, Behind, steps_left, places_from, first_leads, next_leads, places_first, places_step}
 use Rattle.record_rows.proofs.ImageFacts.{parent_image, header}
 use Rattle.record_rows.proofs.BaseRows.{supervoxel_found, supervoxel_spot}
 use Rattle.edge_rows.proofs.EdgeLists.{same_eq}
@@ -114,9 +114,9 @@ unknown_end d b log words i q f =
     no_place (is_edge q) (rows_of d b log) (first_place (is_edge q) (rows_of d b log))
     (first_leads (is_edge q) (rows_of d b log) (HeaderRow d _ _) (header d b log words (parent_image d b log words i)) (headed_pair q d _ _))
     (λ p row h t. (let (made, e, r, s) = edge_row q row t in
-      let k : has b.supervoxels e.pair.a ≡ true = (edge_facts d b log i.dataset i.base i.legal p made e (h ∙ ap (λ x. Some x) r)).2.0 in
-      let z = supervoxel_spot d b log words (parent_image d b log words i) q.a (subst (λ x. has b.supervoxels x.a ≡ true) s k) None f in
-      let none : None ≡ Some z.0 = z.1 in cc))
+    let k : has b.supervoxels e.pair.a ≡ true = (edge_facts d b log i.dataset i.base i.legal p made e (h ∙ ap (λ x. Some x) r)).2.0 in
+    let z = supervoxel_spot d b log words (parent_image d b log words i) q.a (subst (λ x. has b.supervoxels x.a ≡ true) s k) None f in
+    let none : None ≡ Some z.0 = z.1 in cc))
 
 pub is_edge_told : (q : Pair) (made : ℕ) (e : Edge) (t : Bool) → same_pair e.pair q ≡ t → is_edge q (EdgeRow made e) ≡ t
 unfolding is_edge

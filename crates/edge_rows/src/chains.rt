@@ -13,7 +13,7 @@ ghost use Rattle.record_rows.specs.Readings.{Image, HoldsSupervoxel, HoldsEdge, 
 
 use node_ids::NodeId;
 use pcg_base::Words;
-use row_words::{fixed, pointer, Spot};
+use row_words::{Spot, fixed, pointer};
 
 /// The first edge of a supervoxel.
 pub(crate) fn first_edge<W: Words>(w: &mut W, sv: Spot) -> Option<Spot>

@@ -11,7 +11,7 @@ ghost use Rattle.record_rows.specs.Readings.{Image, HoldsEdge, HoldsChange};
 use node_ids::NodeId;
 use op_model::{Pair, Weight};
 use pcg_base::Words;
-use row_words::{fixed, Spot};
+use row_words::{Spot, fixed};
 
 /// The ends of an edge, the lesser id first.
 pub(crate) fn pair_of<W: Words>(w: &mut W, edge: Spot) -> Pair
@@ -21,7 +21,10 @@ pub(crate) fn pair_of<W: Words>(w: &mut W, edge: Spot) -> Pair
 {
     let a = fixed(w, edge, 1);
     let b = fixed(w, edge, 2);
-    Pair { a: NodeId(a), b: NodeId(b) }
+    Pair {
+        a: NodeId(a),
+        b: NodeId(b),
+    }
 }
 
 /// The weight of an edge; a strength of 0 stands for glue.

@@ -17,7 +17,7 @@ use crate::inserting::is_same;
 use node_ids::NodeId;
 use op_model::Pair;
 use pcg_base::Words;
-use row_words::{fixed, supervoxel, Spot};
+use row_words::{Spot, fixed, supervoxel};
 
 /// The record of the edge of a pair; `None` exactly where no edge joins the pair, whatever its
 /// state.

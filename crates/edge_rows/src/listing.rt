@@ -20,7 +20,7 @@ use crate::states::state_at;
 use node_ids::NodeId;
 use op_model::{Edge, EdgeList};
 use pcg_base::{NoMemory, Words};
-use row_words::{fixed, Spot};
+use row_words::{Spot, fixed};
 use std::alloc::Global;
 
 /// An edge with its state after the first `prefix` entries.

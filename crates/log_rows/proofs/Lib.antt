@@ -1,8 +1,9 @@
-mod EntryWords
-mod KindCodes
-mod WalkBack
-mod TimeLemmas
-mod EntryParts
-mod ChainWalk
-mod ChangeWords
-mod ItemWords
+pub mod EntryWords
+pub mod KindCodes
+pub mod WalkBack
+pub mod TimeLemmas
+pub mod EntryParts
+pub mod ChainWalk
+pub mod ChangeWords
+pub mod ItemWords
+pub mod SampleImages

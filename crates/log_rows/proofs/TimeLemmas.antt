@@ -1,6 +1,6 @@
 -- The timestamps of a legal log rise, so that the entries up to a time are those from some entry back.
 use Rattle.std.proofs.Common.{◌≡◌, ℕ, ◌+◌, ◌<◌, ◌≤◌, Bool, true, false, cond, ltb, leb, List, [], ◌∷◌, ◌++◌, length, Some, None, Result, Ok, Err, refl, sym, ◌∙◌, ap, subst, arith}
-use Rattle.std.specs.List.{AllByRecursion, filter, find}
+use Rattle.std.specs.List.{AllByRecursion, find}
 use Rattle.std.proofs.lemmas.Bool.{lt-ltb, le-leb, le-ltb, leb-true, leb-false}
 use Rattle.op_model.specs.declared.Dataset.{Dataset}
 use Rattle.op_model.specs.declared.Base.{Base}

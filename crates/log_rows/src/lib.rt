@@ -9,6 +9,8 @@
 //! - `times`: which entries were there at a time
 //! - `asking`: what made an entry
 //! - `changing`: which pairs an entry changed
+//! - `records`: the record of one entry, and the way to the entry before
+//! - `marks`: the ids of an entry's request
 #![tactic(auto)]
 
 mod asking;
@@ -16,6 +18,8 @@ mod changing;
 mod heads;
 mod marks;
 mod records;
+#[cfg(test)]
+mod tests;
 mod times;
 
 pub use asking::asked;

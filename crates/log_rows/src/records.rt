@@ -1,6 +1,6 @@
 //! The record of one entry, and the way to the entry before.
 
-ghost use Rattle.std.specs.Prelude.{◌≡◌, ℕ, List, ◌-◌, length};
+ghost use Rattle.std.specs.Prelude.{◌≡◌, ◌-◌, List, length};
 ghost use Rattle.op_model.specs.declared.Dataset.{Dataset};
 ghost use Rattle.op_model.specs.declared.Base.{Base};
 ghost use Rattle.op_model.specs.declared.Asked.{Asked};

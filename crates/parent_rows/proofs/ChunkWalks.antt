@@ -7,6 +7,8 @@ use Rattle.op_model.specs.declared.Dataset.{Dataset}
 use Rattle.op_model.specs.declared.Base.{Base}
 use Rattle.op_model.specs.declared.Entry.{Entry}
 use Rattle.op_model.specs.Valid.{IsDataset, IsBase}
+use Rattle.op_model.specs.Legal.{Legal}
+use Rattle.record_rows.proofs.NodeIds.{node_small}
 use Rattle.record_rows.specs.Rows.{Row, NodeRow, Node}
 use Rattle.record_rows.specs.Chains.{node_in}
 use Rattle.record_rows.specs.LogRows.{rows_of}
@@ -24,7 +26,7 @@ unfolding node_in
 node_row c (NodeRow n) t = (n, refl, eqb-true n.chunk c t)
 node_row c row t = absurd (false≢true t)
 
-node_passes : (c : ℕ) (n : Node) → n.chunk ≡ c → node_in c (NodeRow n) ≡ true
+pub node_passes : (c : ℕ) (n : Node) → n.chunk ≡ c → node_in c (NodeRow n) ≡ true
 unfolding node_in
 node_passes c n e = eq-eqb n.chunk c e
 
@@ -133,3 +135,7 @@ module _ (d : Dataset) (b : Base) (valid : IsDataset d) (base : IsBase d b) (log
       let z : x.0 ≡ n = node_same rows p x.0 n (last.1 ∙ ap (λ r. Some r) x.1) h in
       let ch : n.chunk ≡ c = sym (ap (λ y. y.chunk) z) ∙ x.2 in
       ordered_le q p m n (last_behind (node_in c) rows p (sym e) q (NodeRow m) k (node_passes c m f)) k h (f ∙ sym ch)
+
+-- a node's id is no more than the greatest number of 64 bits
+pub node_most : (d : Dataset) (b : Base) (log : List Entry) → IsDataset d → IsBase d b → Legal d b log → (p : ℕ) (n : Node) → HoldsNode d b log p n → n.id ≤ 18446744073709551615
+node_most d b log valid base legal p n h = let l = node_small d b valid base log legal p n h in omega arith

@@ -5,3 +5,5 @@ pub mod NodeWalks
 pub mod ChunkWalks
 pub mod Seeks
 pub mod Sought
+pub mod Samples
+pub mod Leaps

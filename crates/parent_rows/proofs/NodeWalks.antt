@@ -1,5 +1,5 @@
 -- What the chains of a node come to: the entry that retired it, and its children.
-use Rattle.std.proofs.Common.{◌≡◌, ℕ, ◌+◌, ◌<◌, ◌≤◌, Bool, true, false, cond, eqb, ltb, List, [], ◌∷◌, ◌++◌, length, Option, Some, None, refl, sym, ◌∙◌, ap, subst, eq-eqb, append-nil, append_assoc}
+use Rattle.std.proofs.Common.{◌≡◌, ℕ, ◌<◌, ◌≤◌, true, false, List, [], ◌∷◌, ◌++◌, Option, Some, None, refl, sym, ◌∙◌, ap, subst, eq-eqb, append-nil, append_assoc}
 use Rattle.std.specs.List.{slice_get, filter_map, cons_option}
 use Rattle.std.proofs.lemmas.Bool.{false≢true, eqb-true, lt-ltb, le-ltb}
 use Rattle.op_model.specs.declared.Dataset.{Dataset}
@@ -97,9 +97,9 @@ child_first d b log words i id e =
 
 module _ (rows : List Row) (id : ℕ) where
   pub child_step : (p : ℕ) (l : Link) (before : List ℕ) → slice_get rows p ≡ Some (LinkRow l) → l.parent ≡ id
-      → {at next : Option ℕ} {found : List ℕ} → at ≡ Some p → next ≡ next_place (child_of l.parent) rows p → found ≡ before ++ l.child ∷ [] → AtChild rows id at before → AtChild rows id next found
+      → {at next : Option ℕ} {found : List ℕ} → at ≡ Some p → next ≡ next_place (child_of l.parent) rows p → (x : ℕ) → x ≡ l.child → found ≡ before ++ x ∷ [] → AtChild rows id at before → AtChild rows id next found
   unfolding child_to
-  child_step p l before h e {at = at} {next = next} {found = found} f n k a =
+  child_step p l before h e {at = at} {next = next} {found = found} f n x c k a =
       let rest = filter_map (child_to id) (from_spot rows (next_place (child_of id) rows p)) in
       let here : AtChild rows id (Some p) before = subst (λ o. AtChild rows id o before) f a in
       let there : next ≡ next_place (child_of id) rows p = n ∙ ap (λ x. next_place (child_of x) rows p) e in
@@ -107,7 +107,7 @@ module _ (rows : List Row) (id : ℕ) where
       let step : filter_map (child_to id) (from_spot rows (Some p)) ≡ l.child ∷ rest = gather_step (child_of id) (child_to id) (other_child id) rows p (LinkRow l) h ∙ ap (λ o. cons_option o rest) pick in
       subst (λ o. AtChild rows id o found) (sym there) (
         next_leads (child_of id) rows p,
-        ap (λ ns. ns ++ rest) k ∙ (append_assoc before (l.child ∷ []) rest ∙ (sym (ap (λ ns. before ++ ns) step) ∙ here.1)),
+        ap (λ ns. ns ++ rest) (k ∙ ap (λ y. before ++ y ∷ []) c) ∙ (append_assoc before (l.child ∷ []) rest ∙ (sym (ap (λ ns. before ++ ns) step) ∙ here.1)),
       )
 
   pub child_end : (at : Option ℕ) (found : List ℕ) → ((p : ℕ) → at ≡ Some p → ⊥) → AtChild rows id at found → found ≡ children_in rows id

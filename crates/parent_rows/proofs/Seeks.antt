@@ -1,5 +1,5 @@
 -- A record looked for along a chain that it belongs to.
-use Rattle.std.proofs.Common.{◌≡◌, ℕ, zero, suc, ◌+◌, ◌-◌, ◌<◌, ◌≤◌, Bool, true, false, cond, ◌&&◌, eqb, List, [], ◌∷◌, length, drop, Option, Some, None, refl, sym, ◌∙◌, ap, subst, inl, inr, arith, eq-eqb}
+use Rattle.std.proofs.Common.{◌≡◌, ℕ, zero, suc, ◌+◌, ◌-◌, ◌<◌, ◌≤◌, Bool, true, false, cond, eqb, List, [], ◌∷◌, length, drop, Option, Some, None, refl, sym, ◌∙◌, ap, subst, arith, eq-eqb}
 use Rattle.std.specs.List.{slice_get}
 use Rattle.std.proofs.lemmas.Bool.{false≢true, eqb-true, ne_eqb, and_parts, and_from}
 use Rattle.op_model.specs.declared.Dataset.{Dataset}
@@ -13,9 +13,10 @@ use Rattle.record_rows.specs.LogRows.{rows_of, chunks}
 use Rattle.record_rows.specs.Readings.{ParentImage, HoldsNode, place_of, first_place, next_place}
 use Rattle.record_rows.proofs.ImageFacts.{header}
 use Rattle.record_rows.proofs.WalkLemmas.{LeadsTo, Behind, place_of-some, from_here, first_leads, next_leads, next_behind}
+use Rattle.std.proofs.lemmas.Option.{slice_get_within}
+use Rattle.record_rows.proofs.NodeOrder.{ordered_at}
 use Rattle.parent_rows.specs.Steps.{is_node_of}
-use Rattle.parent_rows.proofs.ChainWalks.{NoHeader}
-use Rattle.parent_rows.proofs.ChunkWalks.{node_header, chunk_node, ordered_le}
+use Rattle.parent_rows.proofs.ChunkWalks.{node_passes, node_header, ordered_le}
 
 -- the place of the first record from one on that passes the test
 unfoldable pub seek : (Row → Bool) → List Row → Option ℕ → Option ℕ
@@ -134,3 +135,48 @@ node_passed d b valid base log c id p n h e l f a =
         let w = ordered_le d b valid base log p q n x.0 (omega arith) h k (e ∙ sym x.2) in
         let z : x.0.id ≡ id = x.3 in
         absurd (omega arith)
+
+-- records that the test doesn't pass are passed over
+skipped : (test : Row → Bool) (rows : List Row) (k p : ℕ) → p + k ≤ length rows → ((q : ℕ) (row : Row) → p ≤ q → q < p + k → slice_get rows q ≡ Some row → test row ≡ false)
+    → place_from test p (drop p rows) ≡ place_from test (p + k) (drop (p + k) rows)
+unfolding place_from
+skipped test rows zero p l f = let e : p ≡ p + 0 = omega arith in ap (λ n. place_from test n (drop n rows)) e
+skipped test rows (suc k) p l f =
+    let r = row_at rows p (omega arith) in
+    let t : test r.0 ≡ false = f p r.0 (omega arith) (omega arith) r.1 in
+    let e : p + 1 + k ≡ p + suc k = omega arith in
+    ap (place_from test p) (from_here rows p r.0 r.1) ∙ ((rw t refl) ∙ (skipped test rows k (p + 1) (omega arith) (λ q row m n h. f q row (omega arith) (omega arith) h) ∙ ap (λ n. place_from test n (drop n rows)) e))
+  where
+    row_at : (rs : List Row) (j : ℕ) → j < length rs → (row : Row) × (slice_get rs j ≡ Some row)
+    row_at [] j m = absurd (omega arith)
+    row_at (r ∷ rs) zero m = (r, refl)
+    row_at (r ∷ rs) (suc j) m = row_at rs j (omega arith)
+
+-- a walk may leap to any later node of the chunk whose id is no greater
+pub node_leap : (d : Dataset) (b : Base) → IsDataset d → IsBase d b → (log : List Entry) (c id p q : ℕ) (m : Node) → p ≤ q → HoldsNode d b log q m → m.chunk ≡ c → m.id ≤ id → {at : Option ℕ} → at ≡ Some p
+    → AtNode (rows_of d b log) c id at → AtNode (rows_of d b log) c id (Some q)
+unfolding seek next_place
+node_leap d b valid base log c id p q m l h e low f a =
+    let rows = rows_of d b log in
+    let here : AtNode rows c id (Some p) = subst (AtNode rows c id) f a in
+    let w : q < length rows = slice_get_within rows q (NodeRow m) h in
+    let first : 1 ≤ p = here.0.0 in
+    let k : ℕ = q - p in
+    let to : p + k ≡ q = omega arith in
+    let backp : p - 1 + 1 ≡ p = omega arith in
+    let backq : q - 1 + 1 ≡ q = omega arith in
+    let skip = skipped (is_node_of c id) rows k p (omega arith) (λ j row x y g. miss j row (omega arith) g) in
+    let same : place_of (place_from (is_node_of c id) (p - 1 + 1) (drop (p - 1 + 1) rows)) ≡ place_of (place_from (is_node_of c id) (q - 1 + 1) (drop (q - 1 + 1) rows)) =
+    ap (λ n. place_of (place_from (is_node_of c id) n (drop n rows))) backp ∙ (ap place_of skip ∙ (ap (λ n. place_of (place_from (is_node_of c id) n (drop n rows))) to ∙ sym (ap (λ n. place_of (place_from (is_node_of c id) n (drop n rows))) backq))) in
+    (((omega arith), NodeRow m, h, node_passes c m e), here.1 ∙ same)
+  where
+    miss : (j : ℕ) (row : Row) → j < q → slice_get (rows_of d b log) j ≡ Some row → is_node_of c id row ≡ false
+    miss j row y g = go (is_node_of c id row) refl
+      where
+        go : (t : Bool) → is_node_of c id row ≡ t → t ≡ false
+        go false z = refl
+        go true z =
+            let x = of_node c id row z in
+            let less = ordered_at d b valid base log j q x.0 m y (g ∙ ap (λ r. Some r) x.1) h (x.2 ∙ sym e) in
+            let i : x.0.id ≡ id = x.3 in
+            absurd (omega arith)

@@ -1,5 +1,5 @@
 -- Which records have an id: one of layer 1 a supervoxel, any other a node of the chunk that it tells.
-use Rattle.std.proofs.Common.{◌≡◌, ℕ, zero, suc, ◌+◌, ◌-◌, ◌*◌, ◌/◌, ◌^◌, ◌<◌, ◌≤◌, Bool, true, false, cond, ◌&&◌, eqb, List, [], ◌∷◌, length, drop, get_or, Option, Some, None, refl, sym, ◌∙◌, ap, subst, inl, inr, arith, eq-eqb}
+use Rattle.std.proofs.Common.{◌≡◌, ℕ, zero, suc, ◌+◌, ◌-◌, ◌/◌, ◌^◌, ◌<◌, ◌≤◌, Bool, true, false, cond, ◌&&◌, eqb, List, [], ◌∷◌, length, drop, get_or, Option, Some, None, refl, sym, ◌∙◌, ap, subst, arith, eq-eqb}
 use Rattle.std.specs.List.{slice_get}
 use Rattle.std.proofs.lemmas.Bool.{false≢true, true≢false, eqb-true, ne_eqb}
 use Rattle.std.proofs.Math.Nat.{mod-le}
@@ -7,9 +7,9 @@ use Rattle.node_ids.specs.Ids.{LayoutForm, segments, parts_of, parts_over}
 use Rattle.op_model.specs.declared.Dataset.{Dataset}
 use Rattle.op_model.specs.declared.Base.{Base}
 use Rattle.op_model.specs.declared.Entry.{Entry}
-use Rattle.record_rows.specs.Rows.{Row, HeaderRow, SupervoxelRow, ChunkRow, NodeRow, Node}
+use Rattle.record_rows.specs.Rows.{Row, HeaderRow, SupervoxelRow, ChunkRow, NodeRow}
 use Rattle.record_rows.specs.Chains.{node_in, is_node, has_id}
-use Rattle.record_rows.specs.Words.{place_from, layout_word}
+use Rattle.record_rows.specs.Words.{place_from}
 use Rattle.record_rows.specs.LogRows.{rows_of, chunks}
 use Rattle.record_rows.specs.Readings.{ParentImage, Holds, HoldsChunk, place_of, first_place}
 use Rattle.record_rows.specs.Sorted.{Sorted, FoundAmong, supervoxel_count}
@@ -146,7 +146,6 @@ module _ (d : Dataset) (b : Base) (log : List Entry) (words : List ℕ) (i : Par
           let h : Holds d b log s.0 (ChunkRow c) = subst (λ k. Holds d b log s.0 (ChunkRow k)) x.2 s.1 in
           let t : eqb c c ≡ false = none_found (is_chunk c) (λ dd m n. refl) e o s.0 (ChunkRow c) h in
           absurd (true≢false (sym (eq-eqb c c refl) ∙ t))
-
 
 -- a segment is no more than its id
 pub segment_low : (f : LayoutForm) (id : ℕ) → (parts_of f id).segment ≤ id

@@ -1,12 +1,12 @@
 -- Walks along the links of a child.
-use Rattle.std.proofs.Common.{◌≡◌, ℕ, zero, suc, ◌+◌, ◌<◌, ◌≤◌, Bool, true, false, cond, ◌&&◌, eqb, ltb, List, [], ◌∷◌, length, map, Option, Some, None, refl, sym, ◌∙◌, ap, subst, eq-eqb, arith}
+use Rattle.std.proofs.Common.{◌≡◌, ℕ, ◌<◌, ◌≤◌, Bool, true, false, cond, ◌&&◌, eqb, ltb, List, length, map, Option, Some, None, refl, sym, ◌∙◌, ap, subst, eq-eqb}
 use Rattle.std.specs.List.{slice_get, filter_map, cons_option, last_or, list_any}
 use Rattle.std.proofs.lemmas.Bool.{false≢true, true≢false, cond-false, ne_eqb, eqb-true, lt-ltb, le-ltb}
 use Rattle.op_model.specs.declared.Dataset.{Dataset}
 use Rattle.op_model.specs.declared.Base.{Base}
 use Rattle.op_model.specs.declared.Entry.{Entry}
 use Rattle.record_rows.specs.LogRows.{rows_of, chunks}
-use Rattle.record_rows.specs.Rows.{Row, HeaderRow, Link, LinkRow}
+use Rattle.record_rows.specs.Rows.{Row, Link, LinkRow}
 use Rattle.record_rows.specs.Chains.{version_of, is_node}
 use Rattle.record_rows.specs.Words.{place_from}
 use Rattle.record_rows.specs.Versions.{version_below, parent_place}
@@ -107,6 +107,7 @@ parent_step d b log words i id prefix p l before h e {at = at} {next = next} {fo
   where
     node_header : (x : ℕ) → NoHeader (is_node x)
     node_header x dd m k = refl
+
 pub later_below : (rows : List Row) (l : Link) (prefix : ℕ) (found : Option ℕ) → l.entry < prefix → later_parent rows l prefix found ≡ first_place (is_node l.parent) rows
 unfolding later_parent
 later_below rows l prefix found h = rw (lt-ltb l.entry prefix h) refl

@@ -9,6 +9,7 @@ ghost use Rattle.record_rows.specs.Chains.{node_in};
 ghost use Rattle.record_rows.specs.LogRows.{rows_of};
 ghost use Rattle.record_rows.specs.Readings.{ParentImage, HoldsChunk, HoldsNode, first_place, next_place, last_place};
 
+use crate::runs::leap;
 use pcg_base::Words;
 use row_words::{Spot, pointer};
 
@@ -41,8 +42,9 @@ pub fn last_node<W: Words>(w: &mut W, chunk: Spot) -> Option<Spot>
     let mut found = None;
     let mut at = first_node(w, chunk);
     while let Some(node) = at {
-        found = at;
-        at = next_node(w, node);
+        let last = leap(w, node, u64::MAX);
+        found = Some(last);
+        at = next_node(w, last);
     }
     found
 }

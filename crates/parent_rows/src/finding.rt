@@ -13,14 +13,15 @@ ghost use Rattle.record_rows.specs.Walks.{is_chunk};
 ghost use Rattle.parent_rows.specs.Steps.{is_node_of};
 
 use crate::chunk_nodes::{first_node, next_node};
+use crate::runs::leap;
 use node_ids::{Layout, NodeId};
 use pcg_base::Words;
 use record_rows::layout_of;
 use row_words::{Spot, find_sorted, fixed, supervoxel};
 
 /// The record of a supervoxel or a node; `None` exactly where no entry of the log knows the id. A
-/// supervoxel is found by halving, and so is the chunk of a node, along whose chain the node is then
-/// looked for.
+/// supervoxel is found by halving, and so is the chunk of a node; along the chunk's chain each run of
+/// nodes that one entry made takes one step.
 pub fn find<W: Words>(w: &mut W, id: NodeId) -> Option<Spot>
     requires image { (d : Dataset) × (b : Base) × (log : List Entry) × ParentImage d b log (W.words w.old) }
     ensures same { w.new ≡ w.old }
@@ -64,20 +65,20 @@ fn node_of<W: Words>(w: &mut W, chunk: Spot, id: u64) -> Option<Spot>
 {
     let mut at = first_node(w, chunk);
     while let Some(spot) = at {
-        let here = id_of(w, spot);
-        if here == id {
-            return Some(spot);
-        }
-        if here > id {
+        if id_of(w, spot) > id {
             return None;
         }
-        at = next_node(w, spot);
+        let last = leap(w, spot, id);
+        if id_of(w, last) == id {
+            return Some(last);
+        }
+        at = next_node(w, last);
     }
     None
 }
 
 // a node's id
-fn id_of<W: Words>(w: &mut W, spot: Spot) -> u64
+pub fn id_of<W: Words>(w: &mut W, spot: Spot) -> u64
     requires node { (d : Dataset) × (b : Base) × (log : List Entry) × (n : Node) × ParentImage d b log (W.words w.old) × HoldsNode d b log spot n }
     ensures same { w.new ≡ w.old }
     ensures is { (d : Dataset) (b : Base) (log : List Entry) (n : Node) → ParentImage d b log (W.words w.old) → HoldsNode d b log spot n → result ≡ n.id }
@@ -86,7 +87,7 @@ fn id_of<W: Words>(w: &mut W, spot: Spot) -> u64
 }
 
 // the layout that the header states
-fn layout<W: Words>(w: &mut W) -> Layout
+pub fn layout<W: Words>(w: &mut W) -> Layout
     requires image { (d : Dataset) × (b : Base) × (log : List Entry) × ParentImage d b log (W.words w.old) }
     ensures same { w.new ≡ w.old }
     ensures is { (d : Dataset) (b : Base) (log : List Entry) → ParentImage d b log (W.words w.old) → result ≡ d.layout }

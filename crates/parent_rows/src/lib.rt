@@ -8,12 +8,16 @@
 //! - `finding`: the records of supervoxels, chunks and nodes
 //! - `nodes`: what a node's record tells, and its children
 //! - `chunk_nodes`: the nodes of a chunk
+//! - `runs`: steps over the nodes that one entry made in one chunk
 //! - `versions`: the parents of a supervoxel or a node, entry by entry
 #![tactic(auto)]
 
 mod chunk_nodes;
 mod finding;
 mod nodes;
+mod runs;
+#[cfg(test)]
+mod tests;
 mod versions;
 
 pub use chunk_nodes::{first_node, last_node, next_node};

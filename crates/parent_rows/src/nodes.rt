@@ -87,7 +87,7 @@ fn push(ids: &mut Vec<NodeId>, id: NodeId) -> Result<(), NoMemory>
 }
 
 // the first link of a node's children
-fn first_child<W: Words>(w: &mut W, spot: Spot) -> Option<Spot>
+pub fn first_child<W: Words>(w: &mut W, spot: Spot) -> Option<Spot>
     requires node { (d : Dataset) × (b : Base) × (log : List Entry) × (n : Node) × ParentImage d b log (W.words w.old) × HoldsNode d b log spot n }
     ensures same { w.new ≡ w.old }
     ensures is { (d : Dataset) (b : Base) (log : List Entry) (n : Node) → ParentImage d b log (W.words w.old) → HoldsNode d b log spot n → result ≡ first_place (child_of n.id) (rows_of d b log) }

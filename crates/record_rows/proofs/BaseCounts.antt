@@ -33,7 +33,7 @@ use Rattle.record_rows.proofs.LinkLemmas.{all_ascending, of_component}
 use Rattle.record_rows.proofs.SumLemmas.{total-flat, total_same, total_ones, parted, sorted_same, of_ascending, different_length}
 use Rattle.record_rows.proofs.CountLemmas.{component_differ, nodes_count, links_count, entry_count}
 
-flat_has : (f : ℕ → List ℕ) (ls : List ℕ) (l i : ℕ) → has ls l ≡ true → has (f l) i ≡ true → has (flat_map f ls) i ≡ true
+pub flat_has : (f : ℕ → List ℕ) (ls : List ℕ) (l i : ℕ) → has ls l ≡ true → has (f l) i ≡ true → has (flat_map f ls) i ≡ true
 flat_has f [] l i h g = absurd (false≢true h)
 flat_has f (k ∷ ls) l i h g = elim (has_cases k ls l h) [
   | inl e ↦ append_left (f k) (flat_map f ls) i (subst (λ j. has (f j) i ≡ true) (sym e) g)

@@ -28,4 +28,6 @@ pub mod RowFacts
 pub mod Picks
 pub mod NodeOrder
 pub mod EntryRecords
+pub mod ChildOrder
 pub mod NodeIds
+pub mod RunRows

@@ -82,7 +82,7 @@ module _ (d : Dataset) (b : Base) where
       (all_more (Among here) (Among (here ++ rest)) (flat_map (links_of d b log layer) here) (λ l a. any_left (λ n. eqb n.id l.parent) here rest a) (links_among log layer here))
       (all_more (Among rest) (Among (here ++ rest)) (flat_map (λ j. flat_map (links_of d b log j) (layer_nodes d b log k j)) ls) (λ l a. any_right (λ n. eqb n.id l.parent) here rest a) (layers_among log k ls))
 
-  entry_parents : (log : List Entry) (e : Entry) → AllByRecursion (HasParent (entry_rows d b log e)) (entry_rows d b log e)
+  pub entry_parents : (log : List Entry) (e : Entry) → AllByRecursion (HasParent (entry_rows d b log e)) (entry_rows d b log e)
   unfolding entry_rows new_nodes new_links
   entry_parents log e =
       all_entry d b (HasParent (entry_rows d b log e)) log e (λ x. tt) (λ i. tt) (λ c. tt)

@@ -11,3 +11,4 @@ pub mod Sorted
 pub mod Laws
 pub mod Samples
 pub mod Worked
+pub mod Inner

@@ -4,3 +4,6 @@ pub mod Listing
 pub mod Whole
 pub mod Merging
 pub mod Splitting
+pub mod Values
+pub mod Given
+pub mod Listed

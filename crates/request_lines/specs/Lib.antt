@@ -5,3 +5,5 @@ pub mod Refused
 pub mod Texts
 pub mod Plain
 pub mod Lines
+pub mod Fields
+pub mod Asking

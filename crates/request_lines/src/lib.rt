@@ -1,19 +1,25 @@
 //! The texts of replies and of log lines: compact JSON, one line each, written to a sink exactly
-//! and without memory.
+//! and without memory. And the requests of lines, read exactly: what a line asks, or the first
+//! cause for which it is no request, is a function of the value that `serde_json` reads from it.
 //!
 //! - `replies`, `refused`: the replies;
 //! - `entries`: the lines of the operation log;
 //! - `lines`, `plain`: the lines of a stream, and the one form of a request line that is read without JSON;
 //! - `items`, `lists`: ids, pairs and carries, and lists of them;
+//! - `reading`, `fields`: the request of a line, and its fields;
 //! - `page`: the page on which a text waits for its sink.
 #![tactic(auto)]
 
 mod entries;
+mod fields;
 mod items;
+#[cfg(test)]
+mod line_tests;
 mod lines;
 mod lists;
 mod page;
 mod plain;
+mod reading;
 mod refused;
 mod replies;
 #[cfg(test)]
@@ -24,4 +30,5 @@ pub use lines::split_line;
 pub use lists::{Written, put_list};
 pub use page::Page;
 pub use plain::read_plain_line;
+pub use reading::read_line;
 pub use replies::write_reply;

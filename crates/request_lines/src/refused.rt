@@ -206,24 +206,24 @@ pub fn put_refused<K: Sink>(page: &mut Page, out: &mut K, refusal: Refusal, seen
     }
 }
 
-/// The name of a field.
+/// The name of a field, which is its key in a line.
 #[tactic(auto, unfolding(crate::specs::Refused::field_name))]
-fn name_of(field: FieldName) -> &'static [u8]
+pub fn name_of(field: FieldName) -> &'static str
     ensures { result.now ≡ field_name field }
 {
     match field {
-        FieldName::Do => b"do",
-        FieldName::Sv => b"sv",
-        FieldName::At => b"at",
-        FieldName::Root => b"root",
-        FieldName::A => b"a",
-        FieldName::B => b"b",
-        FieldName::Sources => b"sources",
-        FieldName::Sinks => b"sinks",
-        FieldName::Op => b"op",
-        FieldName::Pairs => b"pairs",
-        FieldName::Low => b"low",
-        FieldName::High => b"high",
+        FieldName::Do => "do",
+        FieldName::Sv => "sv",
+        FieldName::At => "at",
+        FieldName::Root => "root",
+        FieldName::A => "a",
+        FieldName::B => "b",
+        FieldName::Sources => "sources",
+        FieldName::Sinks => "sinks",
+        FieldName::Op => "op",
+        FieldName::Pairs => "pairs",
+        FieldName::Low => "low",
+        FieldName::High => "high",
     }
 }
 
@@ -231,7 +231,7 @@ fn name_of(field: FieldName) -> &'static [u8]
 fn put_field<K: Sink>(page: &mut Page, out: &mut K, field: FieldName, fault: &[u8])
     ensures { Puts (K.held out.old) (K.held out.new) (K.faults out.old) (K.faults out.new) page.old page.new (lacking field fault.now) }
 {
-    page.put_word(out, b"{\"name\":", name_of(field));
+    page.put_word(out, b"{\"name\":", name_of(field).as_bytes());
     page.put_word(out, b",\"ok\":false,\"refusal\":", fault);
     page.put(out, b"}\n");
 }

@@ -1,21 +1,38 @@
 -- The walk over the nodes of a chunk that the first entry made.
-use Rattle.std.proofs.Common.{◌≡◌, ℕ, ◌+◌, ◌-◌, ◌^◌, ◌<◌, ◌≤◌, true, false, cond, ◌&&◌, eqb, List, [], ◌∷◌, ◌++◌, length, map, drop, Option, Some, None, Ok, refl, sym, ◌∙◌, ap, subst, eq-eqb, arith}
-use Rattle.std.specs.List.{slice_get, filter_map, cons_option}
-use Rattle.std.proofs.lemmas.Bool.{cond-true, cond-false, and_from, le-leb, eqb-true, false≢true}
+use Rattle.std.proofs.Common.{◌≡◌, ℕ, zero, suc, ◌+◌, ◌-◌, ◌^◌, ◌<◌, true, false, cond, ◌&&◌, eqb, List, [], ◌∷◌, ◌++◌, length, map, Option, Some, None, IfSome, Ok, refl, sym, ◌∙◌, ap, subst, eq-eqb, arith}
+use Rattle.std.specs.List.{slice_get, filter_map, cons_option, list_any}
+use Rattle.std.proofs.lemmas.Bool.{cond-true, cond-false, ne_eqb, and_from, or_left, or_right, le-leb, eqb-true, false≢true}
+use Rattle.std.specs.Option.{IsSome}
+use Rattle.std.proofs.lemmas.Option.{same_Some}
 use Rattle.node_ids.specs.declared.Parts.{Parts}
 use Rattle.node_ids.specs.Ids.{LayoutForm, width, greatest, id_of}
 use Rattle.node_ids.specs.Packing.{packed}
 use Rattle.op_model.specs.declared.Dataset.{Dataset}
 use Rattle.op_model.specs.declared.Base.{Base}
 use Rattle.op_model.specs.declared.Entry.{Entry}
-use Rattle.record_rows.specs.Rows.{Row, HeaderRow, NodeRow, Node}
+use Rattle.graph_model.specs.Lists.{has}
+use Rattle.op_model.specs.Chunks.{top, layers, chunk}
+use Rattle.record_rows.specs.Rows.{Row, HeaderRow, ChunkRow, NodeRow, Node}
 use Rattle.record_rows.specs.Chains.{node_in}
-use Rattle.record_rows.specs.LogRows.{chunks, rows_of}
-use Rattle.record_rows.specs.Readings.{HoldsNode, first_place, next_place}
-use Rattle.record_rows.specs.Walks.{first_in}
-use Rattle.record_rows.proofs.WalkLemmas.{LeadsTo, from_spot, first_leads, next_leads, gather_first, gather_step}
+use Rattle.record_rows.specs.LogRows.{layer_chunks, chunks, rows_of}
+use Rattle.record_rows.specs.Words.{place_from}
+use Rattle.record_rows.specs.Readings.{HoldsChunk, HoldsNode, ParentImage, place_of, first_place, next_place}
+use Rattle.record_rows.specs.Walks.{is_chunk, first_in}
+use Rattle.record_rows.proofs.WalkLemmas.{LeadsTo, Behind, steps_left, from_spot, first_leads, next_leads, gather_first, gather_step}
 use Rattle.record_rows.proofs.ToldLaws.{headed}
-use Rattle.timestamp_reader.specs.Places.{FirstNodeAt, NodeAt, first_from}
+use Rattle.record_rows.proofs.NodePlaces.{found_from}
+use Rattle.record_rows.proofs.BaseCounts.{flat_has}
+use Rattle.record_rows.proofs.BaseRows.{place_in, chunk_at_place}
+use Rattle.op_model.proofs.LegalLemmas.{ascending_has, map_has}
+use Rattle.op_model.proofs.HistoryLemmas.{legal_prefix}
+use Rattle.op_model.specs.Labels.{root}
+use Rattle.op_model.specs.Operations.{ascending}
+use Rattle.op_model.specs.Valid.{IsDataset, IsBase}
+use Rattle.op_model.specs.Legal.{Legal}
+use Rattle.graph_model.proofs.ListLemmas.{has_head}
+use Rattle.record_rows.proofs.FirstRoots.{first_made}
+use Rattle.op_model.proofs.LocalLemmas.{top_in_layers}
+use Rattle.timestamp_reader.specs.Places.{NodeAt, first_from}
 
 -- the id of a layer's first chunk
 pub zero_packs : (f : LayoutForm) (layer : ℕ) → let p : Parts = record { layer = layer; x = 0; y = 0; z = 0; segment = 0 } in packed f p ≡ Ok (id_of f p)
@@ -69,3 +86,60 @@ module _ (d : Dataset) (b : Base) (log : List Entry) (c : ℕ) where
       ∙ (gather_step (node_in c) (first_in c) (other_node c) rows p (NodeRow n) h
       ∙ (ap (λ o. cons_option o (filter_map (first_in c) (from_spot rows (next_place (node_in c) rows p)))) (cond-true _ (Some n.id) None t)
       ∙ ap (λ ids. n.id ∷ ids) (same_from (next_place (node_in c) rows p))))
+
+-- one step further on there are fewer left, also where the walk ends there
+pub fewer : (n p : ℕ) → p < n → (next result : Option ℕ) → Behind p next → IfSome result (λ q. next ≡ Some q) → steps_left n result < steps_left n (Some p)
+unfolding steps_left
+fewer n p l next None b s = omega arith
+fewer n p l None (Some q) b s = cc
+fewer n p l (Some r) (Some q) b s = let e : r ≡ q = same_Some _ _ s in let k : p < r = b in omega arith
+
+module _ (d : Dataset) (b : Base) (log : List Entry) (k : ℕ) where
+  -- where the search for a chunk ends there is its record
+  pub chunk_at : (p : ℕ) → first_place (is_chunk k) (rows_of d b log) ≡ Some p → HoldsChunk d b log p k
+  unfolding is_chunk
+  chunk_at p h = from (Some p) (subst (LeadsTo (is_chunk k) (rows_of d b log)) h (first_leads (is_chunk k) (rows_of d b log) (HeaderRow d (length b.supervoxels) (length (chunks d b))) (headed d b log) refl)) p refl
+    where
+      from : (at : Option ℕ) → LeadsTo (is_chunk k) (rows_of d b log) at → (q : ℕ) → at ≡ Some q → HoldsChunk d b log q k
+      from None l q e = cc
+      from (Some r) (low, ChunkRow c, g, t) q e = subst (λ x. HoldsChunk d b log x k) (same_Some _ _ e) (subst (λ c. slice_get (rows_of d b log) r ≡ Some (ChunkRow c)) (eqb-true c k t) g)
+      from (Some r) (low, row, g, t) q e = absurd (false≢true t)
+
+  any_here : (rows : List Row) (p : ℕ) (row : Row) → slice_get rows p ≡ Some row → is_chunk k row ≡ true → list_any (is_chunk k) rows ≡ true
+  any_here [] p row h t = cc
+  any_here (r ∷ rows) zero row h t = let e : r ≡ row = cc in or_left (is_chunk k r) _ (ap (is_chunk k) e ∙ t)
+  any_here (r ∷ rows) (suc p) row h t = or_right (is_chunk k r) _ (any_here rows p row h t)
+
+  -- where it ends nowhere, there is no record of the chunk
+  pub no_chunk : first_place (is_chunk k) (rows_of d b log) ≡ None → (p : ℕ) → HoldsChunk d b log p k → ⊥
+  unfolding is_chunk first_place place_of
+  no_chunk h p g = at_zero (place_from (is_chunk k) 0 (rows_of d b log)) h f.0 f.1 f.2
+    where
+      f : (row : Row) × (slice_get (rows_of d b log) (place_from (is_chunk k) 0 (rows_of d b log)) ≡ Some row) × (is_chunk k row ≡ true)
+      f = found_from (is_chunk k) (rows_of d b log) 0 (rows_of d b log) refl (any_here (rows_of d b log) p (ChunkRow k) g (eq-eqb k k refl))
+
+      at_zero : (n : ℕ) → cond (eqb n 0) None (Some n) ≡ None → (row : Row) → slice_get (rows_of d b log) n ≡ Some row → is_chunk k row ≡ true → ⊥
+      at_zero zero e row s t = let q : Some row ≡ Some (HeaderRow d (length b.supervoxels) (length (chunks d b))) = sym s ∙ headed d b log in let w : row ≡ HeaderRow d (length b.supervoxels) (length (chunks d b)) = cc in absurd (false≢true (sym (ap (is_chunk k) w) ∙ t))
+      at_zero (suc n) e row s t =
+          let q : Some (suc n) ≡ None = sym (cond-false (eqb (suc n) 0) None (Some (suc n)) (ne_eqb (suc n) 0 (λ y. absurd (let w : suc n ≡ 0 = y in omega arith)))) ∙ e in
+          false≢true (subst IsSome q refl)
+
+module _ (d : Dataset) (b : Base) (log : List Entry) (words : List ℕ) (i : ParentImage d b log words) where
+  -- a supervoxel's chunk of the top layer has a record
+  pub top_held : (v : ℕ) → has b.supervoxels v ≡ true → (p : ℕ) × HoldsChunk d b log p (chunk d (top d) v)
+  unfolding chunks layer_chunks
+  top_held v h =
+      let c : ℕ = chunk d (top d) v in
+      let m : has (chunks d b) c ≡ true = flat_has (layer_chunks d b) (layers d) (top d) c (top_in_layers d) (ascending_has (map (chunk d (top d)) b.supervoxels) c (map_has (chunk d (top d)) b.supervoxels v h)) in
+      let k = place_in (chunks d b) c m in
+      (1 + length b.supervoxels + k.0, subst (λ x. HoldsChunk d b log (1 + length b.supervoxels + k.0) x) k.2 (chunk_at_place d b log words i k.0 k.1))
+
+-- without supervoxels the first entry made no root
+pub no_roots : (d : Dataset) (b : Base) → IsDataset d → IsBase d b → (newer : List Entry) (e : Entry) → Legal d b (newer ++ e ∷ []) → ((v : ℕ) → has b.supervoxels v ≡ true → ⊥) → [] ≡ e.made
+unfolding ascending
+no_roots d b valid base newer e legal none =
+    sym (first_made d b valid base e (legal_prefix d b newer e [] legal) ∙ ap (λ vs. ascending (map (root d b (e ∷ [])) vs)) (empty b.supervoxels none))
+  where
+    empty : (vs : List ℕ) → ((v : ℕ) → has vs v ≡ true → ⊥) → vs ≡ []
+    empty [] n = refl
+    empty (v ∷ vs) n = absurd (n v (has_head v vs))

@@ -171,7 +171,7 @@ walk_goes rows words id found waiting p l h e {found_now = found_now} {waiting_n
     subst (λ xs. IsPermutation ((old ++ new) ++ start) xs) (append_assoc new old start) (IsPermutation-append_left start (old ++ new) (new ++ old) (IsPermutation-append_comm old new)) in
     record {
       before = w.before ++ l.child ∷ [];
-      place = child_step rows id p l w.before h e f n refl w.place;
+      place = child_step rows id p l w.before h e f n l.child refl refl w.place;
       leaves =
           subst (λ xs. IsPermutation (xs ++ start) (spread rows found_next waiting_next)) (sym more)
           (IsPermutation-trans _ _ _ turned (IsPermutation-trans _ _ _ (IsPermutation-append_right new (old ++ start) (spread rows found_now waiting_now) w.leaves) q));

@@ -1,10 +1,12 @@
-pub mod ChildRows
 pub mod Climbs
 pub mod EndLists
 pub mod FirstWalks
-pub mod LeafLaws
-pub mod LeafMeaning
+pub mod EntryFacts
+pub mod Samples
 pub mod LeafParts
-pub mod LeafWalks
-pub mod NodeChildren
 pub mod NodeLeaves
+pub mod NodeChildren
+pub mod ChildRows
+pub mod LeafMeaning
+pub mod LeafWalks
+pub mod LeafLaws

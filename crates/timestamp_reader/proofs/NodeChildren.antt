@@ -16,7 +16,8 @@ use Rattle.record_rows.specs.Walks.{children_in}
 use Rattle.record_rows.proofs.Listings.{nodes_of}
 use Rattle.record_rows.proofs.DifferLemmas.{Differ, all_append, all_more, all_both}
 use Rattle.record_rows.proofs.LinkLemmas.{Among, among_flat}
-use Rattle.record_rows.proofs.NodeOrder.{OtherId, KidsOf, kids, kids_of, kids_same, kids_none, layers_none, differ_split, entry_kids, entry_none, kids_more, no_kids, nodes_rows, node_all}
+use Rattle.record_rows.proofs.ChildOrder.{OtherId, KidsOf, kids, kids_of, kids_same, kids_none, layers_none, differ_split, entry_kids, entry_none, kids_more, no_kids}
+use Rattle.record_rows.proofs.NodeOrder.{nodes_rows, node_all}
 use Rattle.record_rows.proofs.OnceLemmas.{nodes_once}
 use Rattle.timestamp_reader.proofs.NodeLeaves.{among_all, all_among, Born, Placed, news_placed}
 

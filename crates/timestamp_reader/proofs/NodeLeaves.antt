@@ -24,7 +24,8 @@ use Rattle.record_rows.proofs.CountLemmas.{component_differ}
 use Rattle.record_rows.proofs.SumLemmas.{sorted_same}
 use Rattle.record_rows.proofs.LayerIds.{id_parts}
 use Rattle.record_rows.proofs.LinkLemmas.{Among, IsLayer, of_component, to_component, node_made, node_kept}
-use Rattle.record_rows.proofs.NodeOrder.{OtherId, KidsOf, kids, kids_of, kids_same, kids_none, layers_none, others, all_split, differ_split, entry_kids, entry_none, kids_more, no_kids, nodes_rows, node_all}
+use Rattle.record_rows.proofs.ChildOrder.{OtherId, differ_split}
+use Rattle.record_rows.proofs.NodeOrder.{nodes_rows, node_all}
 use Rattle.record_rows.proofs.OnceLemmas.{layer_low, layers_low, least_all, nodes_once}
 
 pub among_all : {X : Type 0} (P : X → Type 0) (x : X) (xs : List X) → Among x xs → AllByRecursion P xs → P x

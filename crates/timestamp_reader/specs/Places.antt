@@ -3,9 +3,11 @@ use Rattle.std.specs.Prelude.{◌≡◌, ℕ, ◌≤◌, List, [], length, drop,
 use Rattle.std.specs.List.{AllByRecursion, filter_map}
 use Rattle.op_model.specs.declared.Dataset.{Dataset}
 use Rattle.op_model.specs.declared.Base.{Base}
+use Rattle.op_model.specs.declared.Changed.{Changed}
 use Rattle.op_model.specs.declared.Entry.{Entry}
 use Rattle.graph_model.specs.Lists.{has}
 use Rattle.op_model.specs.Chunks.{layers}
+use Rattle.op_model.specs.Operations.{entry_at}
 use Rattle.op_model.specs.Transcript.{log_at}
 use Rattle.record_rows.specs.Versions.{child_at}
 use Rattle.record_rows.specs.Readings.{HoldsId, HoldsNode, ParentImage}
@@ -46,3 +48,9 @@ FirstNodeAt d b log c (Some p) = (1 ≤ p) × (n : Node) × HoldsNode d b log p 
 unfoldable pub first_from : Dataset → Base → List Entry → ℕ → Option ℕ → List ℕ
 first_from d b log c None = []
 first_from d b log c (Some p) = filter_map (first_in c) (drop p (rows_of d b log))
+
+-- the entry with this number, of a log that the words tell of, changed these pairs
+pub record IsChangedBy (d : Dataset) (b : Base) (log : List Entry) (words : List ℕ) (n : ℕ) (e : Entry) (changed : List Changed) : Type 0 where
+  pub image : ParentImage d b log words
+  pub entry : entry_at log n ≡ Some e
+  pub pairs : changed ≡ e.changed

@@ -31,7 +31,9 @@ pub fn first_roots<W: Words>(alloc: Global, w: &mut W) -> Result<Ids, NoMemory>
     let top = top_chunk(w);
     match chunk(w, top) {
         Some(spot) => collected(alloc, w, spot),
-        None => Ok(Ids { list: Vec::new(alloc) }),
+        None => Ok(Ids {
+            list: Vec::new(alloc),
+        }),
     }
 }
 

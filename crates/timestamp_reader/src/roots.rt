@@ -21,7 +21,12 @@ use row_words::supervoxel;
 use std::alloc::Global;
 
 /// The roots of the ends of changed pairs, as the entries below the prefix left them, ascending.
-pub fn roots_of<W: Words>(alloc: Global, w: &mut W, changed: &ChangedPairs, prefix: u32) -> Result<Ids, NoMemory>
+pub fn roots_of<W: Words>(
+    alloc: Global,
+    w: &mut W,
+    changed: &ChangedPairs,
+    prefix: u32,
+) -> Result<Ids, NoMemory>
     requires readable { (d : Dataset) × (b : Base) × (log : List Entry) × IsReadable d b log (W.words w.old) prefix × AreKnown b (ends changed.now) }
     ensures same { w.new ≡ w.old }
     ensures is { (d : Dataset) (b : Base) (log : List Entry) → IsReadable d b log (W.words w.old) prefix → AreKnown b (ends changed.now) → IfOk result (λ ids. ids ≡ ascending (map (root d b (log_at d b log prefix)) (ends changed.now))) }
@@ -36,7 +41,12 @@ pub fn roots_of<W: Words>(alloc: Global, w: &mut W, changed: &ChangedPairs, pref
 }
 
 /// Puts the roots of both ends of a pair to those of others, that of the greater end first.
-fn add_ends<W: Words>(w: &mut W, list: &mut Vec<NodeId>, changed: Changed, prefix: u32) -> Result<(), NoMemory>
+fn add_ends<W: Words>(
+    w: &mut W,
+    list: &mut Vec<NodeId>,
+    changed: Changed,
+    prefix: u32,
+) -> Result<(), NoMemory>
     requires readable { (d : Dataset) × (b : Base) × (log : List Entry) × IsReadable d b log (W.words w.old) prefix × AreKnown b (changed.pair.a ∷ changed.pair.b ∷ []) }
     ensures same { w.new ≡ w.old }
     ensures is { (d : Dataset) (b : Base) (log : List Entry) → IsReadable d b log (W.words w.old) prefix → AreKnown b (changed.pair.a ∷ changed.pair.b ∷ []) → OnOk result (list.new.items ≡ put_id (root d b (log_at d b log prefix) changed.pair.a) (put_id (root d b (log_at d b log prefix) changed.pair.b) list.old.items)) }

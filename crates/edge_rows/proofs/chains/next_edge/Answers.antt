@@ -1,4 +1,4 @@
-use Rattle.std.proofs.Common.{◌≡◌, ◌∙◌, ◌*◌, ◌+◌, ◌<◌, ◌≤◌, arith, sym, ap, subst, length}
+use Rattle.std.proofs.Common.{◌∙◌, ◌*◌, ◌+◌, ◌<◌, ◌≤◌, arith, sym, ap, subst, length}
 use Rattle.std.specs.List.{slice_index}
 use Rattle.record_rows.specs.Rows.{EdgeRow}
 use Rattle.record_rows.specs.Readings.{place_of}

@@ -1,4 +1,4 @@
-use Rattle.std.proofs.Common.{◌∙◌, ap, eqb, ◌/◌, ◌%◌}
+use Rattle.std.proofs.Common.{◌∙◌}
 use Rattle.record_rows.specs.Rows.{ChangeRow}
 use Rattle.edge_rows.proofs.ChainFacts.{reach}
 use Rattle.edge_rows.proofs.FieldFacts.{changed_by_is}

@@ -1,4 +1,4 @@
-use Rattle.std.proofs.Common.{◌≡◌, ◌∙◌, ◌*◌, ◌+◌, ◌≤◌, sym, ap, subst, length}
+use Rattle.std.proofs.Common.{◌∙◌, ◌*◌, ◌+◌, ◌≤◌, sym, ap, subst, length}
 use Rattle.std.specs.List.{slice_index}
 use Rattle.record_rows.specs.Rows.{EdgeRow}
 use Rattle.edge_rows.proofs.ChainFacts.{reach, lesser_is}

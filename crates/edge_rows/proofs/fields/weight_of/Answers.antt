@@ -1,4 +1,4 @@
-use Rattle.std.proofs.Common.{◌≡◌, ◌∙◌, ◌<◌, sym, subst, arith}
+use Rattle.std.proofs.Common.{◌∙◌, ◌<◌, sym, subst, arith}
 use Rattle.record_rows.specs.Rows.{EdgeRow}
 use Rattle.edge_rows.proofs.ChainFacts.{reach}
 use Rattle.edge_rows.proofs.FieldFacts.{strength_is, weight_is, strength_small, weight_glue, weight_affinity}

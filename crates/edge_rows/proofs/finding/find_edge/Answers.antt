@@ -1,16 +1,13 @@
-use Rattle.std.proofs.Common.{◌≡◌, ◌∙◌, ◌+◌, ◌*◌, ◌<◌, ◌≤◌, None, Some, true, false, sym, ap, subst, length, rules}
+use Rattle.std.proofs.Common.{◌≡◌, ◌∙◌, ◌+◌, ◌*◌, ◌<◌, ◌≤◌, None, true, false, sym, subst, length, rules}
 use Rattle.record_rows.specs.Rows.{EdgeRow}
 use Rattle.record_rows.specs.Chains.{edge_at, is_edge}
 use Rattle.record_rows.specs.LogRows.{rows_of}
-use Rattle.record_rows.specs.Readings.{Image, HoldsSupervoxel, next_place}
-use Rattle.record_rows.specs.Sorted.{FoundAmong, supervoxel_count}
-use Rattle.record_rows.specs.Walks.{is_supervoxel}
-use Rattle.record_rows.proofs.WalkLemmas.{LeadsTo, steps_left, first_leads, next_behind}
+use Rattle.record_rows.specs.Readings.{Image}
+use Rattle.record_rows.proofs.WalkLemmas.{steps_left, next_behind}
 use Rattle.record_rows.proofs.ImageFacts.{parent_image, header}
-use Rattle.record_rows.proofs.BaseRows.{supervoxel_found}
 use Rattle.edge_rows.proofs.ChainFacts.{reach}
 use Rattle.edge_rows.proofs.Walks.{fall, headed_edge, edge_here, edge_apart, is_edge_told, found_here, unknown_end}
-use Rattle.edge_rows.proofs.Narrow.{Sought, sought_first, sought_here, sought_next, sought_end}
+use Rattle.edge_rows.proofs.Narrow.{sought_first, sought_here, sought_next, sought_end}
 use Rattle.edge_rows.proofs.finding.find_edge.Goals as goal
 
 pub returns-in_err-sv-clause-found : goal.returns-in_err-sv-clause-found

@@ -1,5 +1,5 @@
-use Rattle.std.proofs.Common.{◌≡◌, ◌∙◌, ◌<◌, Some, sym, ap, subst, length, refl}
-use Rattle.record_rows.specs.Rows.{HeaderRow, ChangeRow}
+use Rattle.std.proofs.Common.{◌∙◌, ◌<◌, sym, ap, subst, length}
+use Rattle.record_rows.specs.Rows.{ChangeRow}
 use Rattle.record_rows.specs.Chains.{change_of}
 use Rattle.record_rows.specs.LogRows.{rows_of}
 use Rattle.record_rows.specs.Readings.{Image, next_place}

@@ -1,4 +1,4 @@
-use Rattle.std.proofs.Common.{◌≡◌, ◌∙◌, ◌<◌, Some, true, sym, ap, subst, length}
+use Rattle.std.proofs.Common.{◌≡◌, ◌∙◌, ◌<◌, true, sym, ap, subst, length}
 use Rattle.record_rows.specs.Rows.{SupervoxelRow, EdgeRow}
 use Rattle.record_rows.specs.Chains.{edge_at}
 use Rattle.record_rows.specs.LogRows.{rows_of}

@@ -9,4 +9,3 @@ supervoxel-requires-clause-header g c = let (d, b, log, i) = c.requires.image in
 
 pub supervoxel-requires-clause-sorted : goal.supervoxel-requires-clause-sorted
 supervoxel-requires-clause-sorted g c = let (d, b, log, i) = c.requires.image in supervoxels_sorted d b log _ (parent_image d b log _ i)
-

@@ -1,4 +1,4 @@
-use Rattle.std.proofs.Common.{◌≡◌, ◌∙◌, sym, subst}
+use Rattle.std.proofs.Common.{sym, subst}
 use Rattle.record_rows.specs.Readings.{Image}
 use Rattle.edge_rows.specs.AtPrefix.{with_state}
 use Rattle.edge_rows.proofs.listing.edge_at.Goals as goal

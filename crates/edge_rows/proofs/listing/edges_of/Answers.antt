@@ -1,4 +1,4 @@
-use Rattle.std.proofs.Common.{◌≡◌, ◌∙◌, ◌+◌, ◌*◌, ◌<◌, ◌≤◌, Some, true, sym, ap, subst, map, length}
+use Rattle.std.proofs.Common.{◌≡◌, ◌∙◌, ◌+◌, ◌*◌, ◌<◌, ◌≤◌, true, sym, ap, subst, map, length}
 use Rattle.op_model.specs.Labels.{edges}
 use Rattle.op_model.specs.Cuts.{PairsAscend}
 use Rattle.op_model.specs.Transcript.{log_at}
@@ -67,8 +67,7 @@ loop-at-preserved g c = record {
       let (d, b, log, v, i, h) = c.requires.supervoxel in
       let (made, e, k, t) = edge_here d b log v c.loop-at.at c.in-Some.edge c.in-Some.is (c.loop-at.invariant.left d b log v i h).1.0 in
       let before = subst (λ w. Image d b log (g.W.Words.words w)) (sym c.loop-at.invariant.same) i in
-      subst (λ fs. PairsAscend (map (λ f. f.pair) fs)) (sym (c.in_ok-keep_edge.ensures.kept d b log made e before k))
-      (kept_ascends (edges d b (log_at d b log c.args.prefix)) c.args.prefix made e c.loop-at.list.items c.loop-at.invariant.ascending);
+      kept_ascends (edges d b (log_at d b log c.args.prefix)) c.args.prefix made e c.loop-at.list.items c.keep_edge.new.list.items (c.in_ok-keep_edge.ensures.kept d b log made e before k) c.loop-at.invariant.ascending;
   left = λ d b log v i h.
       let (q, listed) = c.loop-at.invariant.left d b log v i h in
       let (made, e, k, t) = edge_here d b log v c.loop-at.at c.in-Some.edge c.in-Some.is listed.0 in

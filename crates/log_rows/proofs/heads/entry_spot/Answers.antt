@@ -1,6 +1,5 @@
-use Rattle.std.proofs.Common.{◌≡◌, ℕ, ◌<◌, ◌≤◌, Bool, true, false, eqb, Some, None, List, refl, sym, ◌∙◌, ap, subst, length, arith}
+use Rattle.std.proofs.Common.{◌≡◌, true, false, eqb, Some, None, refl, sym, ◌∙◌, subst}
 use Rattle.std.proofs.lemmas.Bool.{eq-eqb, ne_eqb}
-use Rattle.op_model.specs.declared.Entry.{Entry}
 use Rattle.op_model.specs.Operations.{entry_at}
 use Rattle.record_rows.specs.Readings.{ParentImage}
 use Rattle.log_rows.specs.Entries.{AtEntry, HoldsEntry}

@@ -1,4 +1,4 @@
-use Rattle.std.proofs.Common.{◌≡◌, ℕ, eqb}
+use Rattle.std.proofs.Common.{◌≡◌, eqb}
 use Rattle.log_rows.proofs.WalkBack.{AllWalk}
 use Rattle.log_rows.proofs.heads.entry_spot.Given as goal
 

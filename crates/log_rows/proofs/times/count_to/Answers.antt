@@ -1,8 +1,8 @@
-use Rattle.std.proofs.Common.{◌≡◌, ℕ, ◌+◌, ◌<◌, ◌≤◌, Bool, true, false, leb, Some, None, Ok, Err, List, refl, sym, ◌∙◌, ap, subst, length, arith}
+use Rattle.std.proofs.Common.{ℕ, ◌+◌, Bool, true, false, leb, Some, None, Ok, Err, refl, sym, ◌∙◌, ap, subst, arith}
 use Rattle.std.proofs.lemmas.Bool.{le-leb, lt-leb}
 use Rattle.op_model.specs.declared.Entry.{Entry}
 use Rattle.record_rows.specs.Readings.{ParentImage}
-use Rattle.log_rows.specs.Entries.{AtEntry, HoldsEntry}
+use Rattle.log_rows.specs.Entries.{AtEntry}
 use Rattle.log_rows.specs.declared.times.TimeRefusal.TheVariants.{TooEarly}
 use Rattle.log_rows.specs.Times.{count_to}
 use Rattle.log_rows.proofs.EntryWords.{tells}

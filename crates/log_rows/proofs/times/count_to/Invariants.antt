@@ -1,4 +1,4 @@
-use Rattle.std.proofs.Common.{◌≡◌, ℕ, leb}
+use Rattle.std.proofs.Common.{◌≡◌, leb}
 use Rattle.log_rows.proofs.WalkBack.{AllWalk}
 use Rattle.log_rows.proofs.times.count_to.Given as goal
 

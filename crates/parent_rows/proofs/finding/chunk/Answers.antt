@@ -1,4 +1,4 @@
-use Rattle.std.proofs.Common.{◌≡◌, ◌∙◌, ◌+◌, ◌<◌, sym, ap, subst, arith}
+use Rattle.std.proofs.Common.{arith}
 use Rattle.parent_rows.proofs.ChainWalks.{image_kept}
 use Rattle.parent_rows.proofs.Sought.{header_within, counted_low, chunks_counted_sorted, chunk_counted, counts_kept, word_kept}
 use Rattle.parent_rows.proofs.finding.chunk.Goals as goal

@@ -1,4 +1,4 @@
-use Rattle.std.proofs.Common.{◌≡◌, ◌∙◌}
+use Rattle.std.proofs.Common.{◌∙◌}
 use Rattle.record_rows.proofs.ToldLaws.{headers_state}
 use Rattle.parent_rows.proofs.Sought.{header_within}
 use Rattle.parent_rows.proofs.finding.layout.Goals as goal

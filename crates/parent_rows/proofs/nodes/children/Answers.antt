@@ -1,9 +1,9 @@
-use Rattle.std.proofs.Common.{◌≡◌, ◌∙◌, ◌++◌, ◌∷◌, [], sym, ap, subst}
+use Rattle.std.proofs.Common.{◌∙◌, sym, subst}
 use Rattle.op_model.specs.Valid.{IsAscending}
 use Rattle.record_rows.specs.Rows.{LinkRow}
 use Rattle.record_rows.specs.Chains.{child_of}
 use Rattle.record_rows.specs.LogRows.{rows_of}
-use Rattle.record_rows.proofs.NodeOrder.{children_ascend}
+use Rattle.record_rows.proofs.ChildOrder.{children_ascend}
 use Rattle.parent_rows.proofs.ChainWalks.{image_kept, walk_falls}
 use Rattle.parent_rows.proofs.NodeWalks.{AtChild, child_link, child_first, child_step, child_end}
 use Rattle.parent_rows.proofs.nodes.children.Goals as goal
@@ -40,14 +40,14 @@ pub loop-at-preserved : goal.loop-at-preserved
 loop-at-preserved g c = (
   c.next_child-at.ensures.same ∙ (c.child.ensures.same ∙ c.loop-at.invariant.0),
   λ d b log n i h.
-    let inv = c.loop-at.invariant in
-    let at = inv.1 d b log n i h in
-    let l = child_link (rows_of d b log) n.id c.in-Some.link c.in-Some.is at.0 in
-    let child = c.child.ensures.is d b log l.0 (image_kept g.W.Words.words d b log inv.0 i) l.1 in
-    child_step (rows_of d b log) n.id c.in-Some.link l.0 c.loop-at.list.items l.1 l.2 c.in-Some.is
-    (c.next_child-at.ensures.is d b log l.0 (image_kept g.W.Words.words d b log (c.child.ensures.same ∙ inv.0) i) l.1)
-    (c.in_ok-push.ensures ∙ ap (λ x. c.loop-at.list.items ++ x ∷ []) child)
-    at,
+      let inv = c.loop-at.invariant in
+      let at = inv.1 d b log n i h in
+      let l = child_link (rows_of d b log) n.id c.in-Some.link c.in-Some.is at.0 in
+      let child = c.child.ensures.is d b log l.0 (image_kept g.W.Words.words d b log inv.0 i) l.1 in
+      child_step (rows_of d b log) n.id c.in-Some.link l.0 c.loop-at.list.items l.1 l.2 c.in-Some.is
+      (c.next_child-at.ensures.is d b log l.0 (image_kept g.W.Words.words d b log (c.child.ensures.same ∙ inv.0) i) l.1)
+      c.child.result child c.in_ok-push.ensures
+      at,
 )
 
 pub returns-clause-children : goal.returns-clause-children

@@ -1,4 +1,4 @@
-use Rattle.std.proofs.Common.{◌≡◌, ◌∙◌, ◌<◌, ◌≤◌, sym, ap, subst, Some}
+use Rattle.std.proofs.Common.{◌∙◌, sym, ap, Some}
 use Rattle.record_rows.specs.Walks.{if_below}
 use Rattle.parent_rows.proofs.ChainWalks.{image_kept}
 use Rattle.parent_rows.proofs.NodeWalks.{never_ended, ended_first, below_prefix, above_prefix}

@@ -1,4 +1,4 @@
-use Rattle.std.proofs.Common.{◌≡◌, ◌∙◌, ◌<◌, sym, subst, arith}
+use Rattle.std.proofs.Common.{◌∙◌, arith}
 use Rattle.parent_rows.proofs.Told.{entry_number as told_number}
 use Rattle.parent_rows.proofs.nodes.entry_number.Goals as goal
 

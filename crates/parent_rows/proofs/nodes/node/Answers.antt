@@ -1,4 +1,4 @@
-use Rattle.std.proofs.Common.{◌≡◌, ◌∙◌, ◌<◌, sym, subst, arith}
+use Rattle.std.proofs.Common.{◌∙◌, arith}
 use Rattle.parent_rows.proofs.Told.{node_id, node_least, node_made}
 use Rattle.parent_rows.proofs.ChainWalks.{image_kept}
 use Rattle.parent_rows.proofs.nodes.node.Goals as goal

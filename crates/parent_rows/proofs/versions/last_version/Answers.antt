@@ -1,9 +1,9 @@
-use Rattle.std.proofs.Common.{◌≡◌, ◌∙◌, List, sym, ap}
+use Rattle.std.proofs.Common.{◌∙◌, ap}
 use Rattle.record_rows.specs.Rows.{LinkRow}
 use Rattle.record_rows.specs.Chains.{version_of}
 use Rattle.record_rows.specs.LogRows.{rows_of}
 use Rattle.record_rows.specs.Readings.{next_place}
-use Rattle.parent_rows.proofs.ChainWalks.{AtLast, image_kept, walk_falls, last_first, last_step, last_end}
+use Rattle.parent_rows.proofs.ChainWalks.{image_kept, walk_falls, last_first, last_step, last_end}
 use Rattle.parent_rows.proofs.VersionWalks.{version_link, version_header}
 use Rattle.parent_rows.proofs.versions.last_version.Goals as goal
 
@@ -33,12 +33,12 @@ pub loop-at-preserved : goal.loop-at-preserved
 loop-at-preserved g c = (
   c.next_version-at.ensures.same ∙ c.loop-at.invariant.0,
   λ d b log id i h.
-    let inv = c.loop-at.invariant in
-    let at = inv.1 d b log id i h in
-    let l = version_link (rows_of d b log) id c.in-Some.link c.in-Some.is at.0 in
-    last_step (version_of id) (rows_of d b log) c.in-Some.link c.loop-at.found c.in-Some.is
-    (c.next_version-at.ensures.is d b log l.0 (image_kept g.W.Words.words d b log inv.0 i) l.1 ∙ ap (λ x. next_place (version_of x) (rows_of d b log) c.in-Some.link) l.2)
-    at,
+      let inv = c.loop-at.invariant in
+      let at = inv.1 d b log id i h in
+      let l = version_link (rows_of d b log) id c.in-Some.link c.in-Some.is at.0 in
+      last_step (version_of id) (rows_of d b log) c.in-Some.link c.loop-at.found c.in-Some.is
+      (c.next_version-at.ensures.is d b log l.0 (image_kept g.W.Words.words d b log inv.0 i) l.1 ∙ ap (λ x. next_place (version_of x) (rows_of d b log) c.in-Some.link) l.2)
+      at,
 )
 
 pub returns-clause-same : goal.returns-clause-same

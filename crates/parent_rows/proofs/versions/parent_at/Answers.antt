@@ -1,10 +1,9 @@
-use Rattle.std.proofs.Common.{◌≡◌, ◌∙◌, List, sym}
+use Rattle.std.proofs.Common.{◌∙◌}
 use Rattle.record_rows.specs.Rows.{LinkRow}
 use Rattle.record_rows.specs.Chains.{version_of}
 use Rattle.record_rows.specs.LogRows.{rows_of}
-use Rattle.record_rows.specs.Readings.{next_place}
 use Rattle.parent_rows.proofs.ChainWalks.{image_kept, walk_falls}
-use Rattle.parent_rows.proofs.VersionWalks.{AtParent, version_link, parent_first, parent_step, parent_end}
+use Rattle.parent_rows.proofs.VersionWalks.{version_link, parent_first, parent_step, parent_end}
 use Rattle.parent_rows.proofs.versions.parent_at.Goals as goal
 
 pub loop-at-init : goal.loop-at-init
@@ -42,13 +41,13 @@ pub loop-at-preserved : goal.loop-at-preserved
 loop-at-preserved g c = (
   c.next_version-at.ensures.same ∙ (c.later-found.ensures.same ∙ c.loop-at.invariant.0),
   λ d b log id i h.
-    let inv = c.loop-at.invariant in
-    let at = inv.1 d b log id i h in
-    let l = version_link (rows_of d b log) id c.in-Some.link c.in-Some.is at.0 in
-    parent_step d b log _ i id c.args.prefix c.in-Some.link l.0 c.loop-at.found l.1 l.2 c.in-Some.is
-    (c.next_version-at.ensures.is d b log l.0 (image_kept g.W.Words.words d b log (c.later-found.ensures.same ∙ inv.0) i) l.1)
-    (c.later-found.ensures.is d b log l.0 (image_kept g.W.Words.words d b log inv.0 i) l.1)
-    at,
+      let inv = c.loop-at.invariant in
+      let at = inv.1 d b log id i h in
+      let l = version_link (rows_of d b log) id c.in-Some.link c.in-Some.is at.0 in
+      parent_step d b log _ i id c.args.prefix c.in-Some.link l.0 c.loop-at.found l.1 l.2 c.in-Some.is
+      (c.next_version-at.ensures.is d b log l.0 (image_kept g.W.Words.words d b log (c.later-found.ensures.same ∙ inv.0) i) l.1)
+      (c.later-found.ensures.is d b log l.0 (image_kept g.W.Words.words d b log inv.0 i) l.1)
+      at,
 )
 
 pub returns-clause-same : goal.returns-clause-same

@@ -1,10 +1,7 @@
-use Rattle.std.proofs.Common.{◌≡◌, ◌≤◌, ◌∙◌, Ok, length, get_or, refl, sym, subst, ap, ap₂, arith}
-use Rattle.std.specs.Result.{IsOk}
-use Rattle.node_ids.specs.declared.Parts.{Parts}
+use Rattle.std.proofs.Common.{◌≡◌, ℕ, ◌≤◌, ◌∙◌, length, get_or, refl, sym, subst, ap, ap₂, arith}
+use Rattle.std.specs.Result.{IsOk, IfOk}
 use Rattle.node_ids.specs.Ids.{id_of}
-use Rattle.node_ids.specs.Packing.{packed}
 use Rattle.op_model.specs.Chunks.{top}
-use Rattle.record_rows.specs.Words.{layout_word}
 use Rattle.record_rows.proofs.ImageFacts.{header, within}
 use Rattle.record_rows.proofs.ToldLaws.{headers_state}
 use Rattle.timestamp_reader.proofs.FirstWalks.{zero_packs}
@@ -29,5 +26,6 @@ returns-clause-is g c d b log i =
     let word = c.fixed-word.ensures.is ∙ (ap (λ x. get_or (g.W.Words.words x) 0 0) c.top_of-layer.ensures.same ∙ (headers_state d b _ log i.parents).0) in
     let layout : c.layout_of.result ≡ d.layout = c.layout_of.ensures.is d i.dataset word in
     let layer : c.top_of-layer.result ≡ top d = c.top_of-layer.ensures.is d b log i in
-    same_Ok _ _ (sym c.unwrap.ensures ∙ (c.pack.ensures ∙ zero_packs c.layout_of.result c.top_of-layer.result))
+    let p : ℕ = id_of c.layout_of.result (record { layer = c.top_of-layer.result; x = 0; y = 0; z = 0; segment = 0 }) in
+    subst (λ r. IfOk r (λ y. y ≡ p)) c.unwrap.ensures (subst (λ r. IfOk r (λ y. y ≡ p)) (sym (c.pack.ensures ∙ zero_packs c.layout_of.result c.top_of-layer.result)) refl)
     ∙ ap₂ (λ f l. id_of f (record { layer = l; x = 0; y = 0; z = 0; segment = 0 })) layout layer

@@ -32,7 +32,7 @@ above-spot-requires g c =
         c.loop-place.place + 2,
         r.3,
         subst (λ w. IsBelow r.0 r.1 r.2 (g.W.Words.words w) c.args.prefix (c.loop-place.place + 2) r.3 c.loop-place.spot) (sym i.same)
-          (below_layer r.0 r.1 r.2 _ c.args.prefix (c.loop-place.place + 2) r.3 c.args.sv c.loop-place.spot r.4 r.5 r.6 r.7 (omega arith) (omega arith) (i.at r.0 r.1 r.2 r.3 r.4 r.5 r.7)),
+            (below_layer r.0 r.1 r.2 _ c.args.prefix (c.loop-place.place + 2) r.3 c.args.sv c.loop-place.spot r.4 r.5 r.6 r.7 (omega arith) (omega arith) (i.at r.0 r.1 r.2 r.3 r.4 r.5 r.7)),
       );
     }
 
@@ -50,8 +50,8 @@ id_of-requires g c =
         node r.0 r.1 (log_at r.0 r.1 r.2 c.args.prefix) (c.loop-place.place + 2) r.3,
         subst (λ w. ParentImage r.0 r.1 r.2 (g.W.Words.words w)) (sym (c.above-spot.ensures.same ∙ i.same)) r.4,
         c.above-spot.ensures.is r.0 r.1 r.2 (c.loop-place.place + 2) r.3
-          (subst (λ w. IsBelow r.0 r.1 r.2 (g.W.Words.words w) c.args.prefix (c.loop-place.place + 2) r.3 c.loop-place.spot) (sym i.same)
-          (below_layer r.0 r.1 r.2 _ c.args.prefix (c.loop-place.place + 2) r.3 c.args.sv c.loop-place.spot r.4 r.5 r.6 r.7 (omega arith) (omega arith) (i.at r.0 r.1 r.2 r.3 r.4 r.5 r.7))),
+            (subst (λ w. IsBelow r.0 r.1 r.2 (g.W.Words.words w) c.args.prefix (c.loop-place.place + 2) r.3 c.loop-place.spot) (sym i.same)
+            (below_layer r.0 r.1 r.2 _ c.args.prefix (c.loop-place.place + 2) r.3 c.args.sv c.loop-place.spot r.4 r.5 r.6 r.7 (omega arith) (omega arith) (i.at r.0 r.1 r.2 r.3 r.4 r.5 r.7))),
       );
     }
 

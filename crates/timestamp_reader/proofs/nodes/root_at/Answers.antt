@@ -28,7 +28,7 @@ above-spot-requires g c =
         c.loop-layer.layer,
         r.3,
         subst (λ w. IsBelow r.0 r.1 r.2 (g.W.Words.words w) c.args.prefix c.loop-layer.layer r.3 c.loop-layer.spot) (sym i.same)
-          (below_layer r.0 r.1 r.2 _ c.args.prefix c.loop-layer.layer r.3 c.args.sv c.loop-layer.spot r.4 r.5 r.6 r.7 i.low (omega arith) (i.at r.0 r.1 r.2 r.3 r.4 r.5 r.7)),
+            (below_layer r.0 r.1 r.2 _ c.args.prefix c.loop-layer.layer r.3 c.args.sv c.loop-layer.spot r.4 r.5 r.6 r.7 i.low (omega arith) (i.at r.0 r.1 r.2 r.3 r.4 r.5 r.7)),
       );
     }
 

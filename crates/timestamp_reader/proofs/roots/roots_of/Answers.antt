@@ -1,10 +1,10 @@
 use Rattle.std.proofs.Common.{◌≡◌, ◌-◌, ◌<◌, ◌∙◌, ℕ, length, get_or, List, map, refl, sym, ap, subst, arith}
 use Rattle.op_model.specs.declared.Changed.{Changed}
 use Rattle.op_model.specs.Labels.{root}
-use Rattle.op_model.specs.Operations.{ascending, ends, put_id}
+use Rattle.op_model.specs.Operations.{ascending, put_id}
 use Rattle.op_model.specs.Transcript.{log_at}
 use Rattle.timestamp_reader.specs.Places.{IsReadable}
-use Rattle.timestamp_reader.proofs.EndLists.{none_left, one_left, all_left, known_at}
+use Rattle.timestamp_reader.proofs.EndLists.{none_left, one_left, known_at}
 use Rattle.timestamp_reader.proofs.roots.roots_of.Goals as goal
 
 pub loop-done-init : goal.loop-done-init

@@ -1,0 +1,18 @@
+-- What the tests know of the words that they read.
+use Rattle.std.specs.Prelude.{ℕ, ◌≤◌, ◌<◌, List, length}
+use Rattle.op_model.specs.declared.Entry.{Entry}
+use Rattle.op_model.specs.Samples.{base, data_a}
+use Rattle.record_rows.specs.Readings.{Image}
+
+-- the words are the image of a log of the sample base, which has this many entries at least
+pub record HasPrefix (words : List ℕ) (prefix : ℕ) : Type 0 where
+  pub log : List Entry
+  pub image : Image data_a base log words
+  pub low : 1 ≤ prefix
+  pub high : prefix ≤ length log
+
+-- and which has an entry of this number
+pub record HasEntry (words : List ℕ) (n : ℕ) : Type 0 where
+  pub log : List Entry
+  pub image : Image data_a base log words
+  pub below : n < length log

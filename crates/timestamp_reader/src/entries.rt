@@ -1,0 +1,85 @@
+//! Whole entries of the log.
+
+ghost use Rattle.std.specs.Prelude.{◌≡◌, ◌<◌, ℕ, List, Some, IfOk, length};
+ghost use Rattle.op_model.specs.declared.Dataset.{Dataset};
+ghost use Rattle.op_model.specs.declared.Base.{Base};
+ghost use Rattle.op_model.specs.declared.Entry.{Entry};
+ghost use Rattle.op_model.specs.Operations.{entry_at};
+ghost use Rattle.record_rows.specs.Readings.{Image};
+ghost use Rattle.timestamp_reader.specs.Places.{IsChangedBy};
+
+use crate::first_roots::first_roots;
+use crate::roots::roots_of;
+use log_rows::{all_changed, asked, head};
+use op_model::{ChangedPairs, Entry, Ids};
+use pcg_base::{NoMemory, Words};
+use std::alloc::Global;
+
+/// The entry with this number, which must be below how many the log has. What it retired and made
+/// isn't stored: it is the roots of its changed pairs' ends before it and after it, and all roots of
+/// the base for the ingest.
+///
+/// # Errors
+///
+/// `NoMemory` where there is none for the entry's lists.
+pub fn entry<W: Words>(alloc: Global, w: &mut W, n: u32) -> Result<Entry, NoMemory>
+    requires entry { (d : Dataset) × (b : Base) × (log : List Entry) × Image d b log (W.words w.old) × (n < length log) }
+    ensures same { w.new ≡ w.old }
+    ensures is { (d : Dataset) (b : Base) (log : List Entry) (e : Entry) → Image d b log (W.words w.old) → entry_at log n ≡ Some e → IfOk result (λ x. x ≡ e) }
+{
+    let head = head(w, n);
+    let asked = asked(alloc, w, n)?;
+    let changed = all_changed(alloc, w, n)?;
+    let retired = retired_by(alloc, w, &changed, n)?;
+    let made = made_by(alloc, w, &changed, n)?;
+    Ok(Entry {
+        number: n,
+        client: head.client,
+        line: head.line,
+        at: head.at,
+        asked,
+        changed,
+        retired,
+        made,
+    })
+}
+
+/// The roots that this entry retired: those of its changed pairs' ends before it, and none of the
+/// ingest.
+fn retired_by<W: Words>(
+    alloc: Global,
+    w: &mut W,
+    changed: &ChangedPairs,
+    n: u32,
+) -> Result<Ids, NoMemory>
+    requires entry { (d : Dataset) × (b : Base) × (log : List Entry) × (e : Entry) × IsChangedBy d b log (W.words w.old) n e changed.now }
+    ensures same { w.new ≡ w.old }
+    ensures is { (d : Dataset) (b : Base) (log : List Entry) (e : Entry) → IsChangedBy d b log (W.words w.old) n e changed.now → IfOk result (λ ids. ids ≡ e.retired) }
+{
+    if n == 0 {
+        Ok(Ids {
+            list: Vec::new(alloc),
+        })
+    } else {
+        roots_of(alloc, w, changed, n)
+    }
+}
+
+/// The roots that this entry made: those of its changed pairs' ends after it, and all roots of the
+/// base for the ingest.
+fn made_by<W: Words>(
+    alloc: Global,
+    w: &mut W,
+    changed: &ChangedPairs,
+    n: u32,
+) -> Result<Ids, NoMemory>
+    requires entry { (d : Dataset) × (b : Base) × (log : List Entry) × (e : Entry) × IsChangedBy d b log (W.words w.old) n e changed.now }
+    ensures same { w.new ≡ w.old }
+    ensures is { (d : Dataset) (b : Base) (log : List Entry) (e : Entry) → IsChangedBy d b log (W.words w.old) n e changed.now → IfOk result (λ ids. ids ≡ e.made) }
+{
+    if n == 0 {
+        first_roots(alloc, w)
+    } else {
+        roots_of(alloc, w, changed, n + 1)
+    }
+}
