@@ -1,12 +1,10 @@
 -- The child of a link has a record before that of the link.
-use Rattle.std.proofs.Common.{◌≡◌, ℕ, zero, suc, ◌+◌, ◌-◌, ◌^◌, ◌<◌, ◌≤◌, Bool, true, false, cond, ◌||◌, eqb, List, [], ◌∷◌, ◌++◌, length, map, take, drop, Option, Some, None, refl, sym, ◌∙◌, ap, subst, inl, inr, eq-eqb, append-nil, append_assoc}
+use Rattle.std.proofs.Common.{◌≡◌, ℕ, zero, suc, ◌+◌, ◌-◌, Bool, true, false, cond, ◌||◌, eqb, List, [], ◌∷◌, ◌++◌, map, take, drop, Some, refl, sym, subst, inl, inr, eq-eqb, append-nil, append_assoc}
 use Rattle.std.specs.List.{AllByRecursion, list_any, slice_get}
 use Rattle.std.proofs.lemmas.Bool.{or_left, or_right, or_cases, false≢true}
 use Rattle.std.proofs.lemmas.List.{take-append-drop}
 use Rattle.op_model.specs.declared.Dataset.{Dataset}
 use Rattle.op_model.specs.declared.Base.{Base}
-use Rattle.op_model.specs.declared.Changed.{Changed}
-use Rattle.op_model.specs.declared.Edge.{Edge}
 use Rattle.op_model.specs.declared.Entry.{Entry}
 use Rattle.graph_model.specs.Lists.{has}
 use Rattle.graph_model.proofs.ListLemmas.{has_cases, has_none}
@@ -14,13 +12,13 @@ use Rattle.op_model.specs.Chunks.{layers}
 use Rattle.op_model.specs.Labels.{is_new, is_empty, node}
 use Rattle.op_model.specs.Valid.{IsDataset, IsBase}
 use Rattle.op_model.specs.Legal.{Legal}
-use Rattle.record_rows.specs.Rows.{Row, HeaderRow, SupervoxelRow, ChunkRow, NodeRow, LinkRow, EdgeRow, ChangeRow, ItemRow, EntryRow, Node, Link, Item}
+use Rattle.record_rows.specs.Rows.{Row, HeaderRow, SupervoxelRow, ChunkRow, NodeRow, LinkRow, EdgeRow, ChangeRow, ItemRow, EntryRow, Link}
 use Rattle.record_rows.specs.Chains.{has_id, is_node}
 use Rattle.record_rows.specs.Words.{place_from}
 use Rattle.record_rows.specs.LogRows.{marks, chunks, new_nodes, new_links, new_edges, entry_rows, base_rows, rows_of}
 use Rattle.record_rows.specs.Readings.{Holds, HoldsId}
 use Rattle.record_rows.specs.Versions.{child_at}
-use Rattle.record_rows.proofs.DifferLemmas.{all_append, all_more, all_each, all_map}
+use Rattle.record_rows.proofs.DifferLemmas.{all_more, all_each, all_map}
 use Rattle.record_rows.proofs.LinkLemmas.{IsLayer, NewLink, news_links, of_component, layer_down, node_made, node_kept}
 use Rattle.record_rows.proofs.NodePlaces.{any_node, known, found_from}
 use Rattle.record_rows.proofs.RowFacts.{any_left, any_right, all_base}

@@ -1,5 +1,5 @@
 -- The leaves in the record of a root are those that the root is answered with.
-use Rattle.std.proofs.Common.{◌≡◌, ℕ, ◌<◌, Bool, true, false, cond, ◌||◌, eqb, List, [], ◌∷◌, ◌++◌, length, map, refl, sym, ◌∙◌, ap, subst, inl, inr, eq-eqb}
+use Rattle.std.proofs.Common.{◌≡◌, ℕ, ◌<◌, Bool, true, false, ◌||◌, eqb, List, [], ◌∷◌, ◌++◌, length, map, refl, sym, ◌∙◌, ap, subst, inl, inr, eq-eqb}
 use Rattle.std.specs.List.{filter}
 use Rattle.std.proofs.lemmas.Bool.{cond-true, cond-false, cases_Bool, eqb-true, or_left, or_right}
 use Rattle.op_model.specs.declared.Dataset.{Dataset}
@@ -15,7 +15,6 @@ use Rattle.op_model.specs.Labels.{is_new, is_empty, touches, component, node, ro
 use Rattle.op_model.specs.Legal.{Legal}
 use Rattle.op_model.specs.Operations.{change, ends, ascending, next_entry, entry_of}
 use Rattle.op_model.specs.Valid.{IsDataset, IsBase}
-use Rattle.op_model.proofs.HistoryLemmas.{legal_prefix}
 use Rattle.op_model.proofs.KnownLemmas.{legal_known}
 use Rattle.op_model.proofs.LabelLemmas.{own_component}
 use Rattle.op_model.proofs.LegalLemmas.{ascending_has, map_has}
@@ -30,7 +29,7 @@ use Rattle.record_rows.proofs.LayerIds.{same_layer}
 use Rattle.record_rows.proofs.LinkLemmas.{of_component, to_component}
 use Rattle.record_rows.proofs.OnceLemmas.{ascending_differ, layer_low}
 use Rattle.record_rows.proofs.SumLemmas.{sorted_same}
-use Rattle.timestamp_reader.proofs.NodeChildren.{Raised, node_raised}
+use Rattle.timestamp_reader.proofs.NodeChildren.{node_raised}
 use Rattle.timestamp_reader.proofs.NodeLeaves.{Born, later_other}
 
 end_touches : (cs : List Changed) (vs : List ℕ) (x : ℕ) → has (ends cs) x ≡ true → has vs x ≡ true → touches cs vs ≡ true

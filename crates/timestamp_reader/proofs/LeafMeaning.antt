@@ -1,7 +1,7 @@
 -- The leaves of a node are those of its children, each once.
-use Rattle.std.proofs.Common.{◌≡◌, ℕ, ◌+◌, ◌-◌, ◌/◌, ◌^◌, ◌<◌, ◌≤◌, Bool, true, false, cond, eqb, List, [], ◌∷◌, ◌++◌, length, map, Option, Some, None, refl, sym, ◌∙◌, ap, subst, inl, inr, eq-eqb, arith}
+use Rattle.std.proofs.Common.{◌≡◌, ℕ, ◌+◌, ◌-◌, ◌/◌, ◌^◌, ◌<◌, ◌≤◌, Bool, true, false, cond, eqb, List, [], ◌∷◌, ◌++◌, map, Some, refl, sym, ◌∙◌, ap, subst, eq-eqb, arith}
 use Rattle.std.specs.Prelude.{IsPermutation}
-use Rattle.std.specs.List.{AllByRecursion, filter, flat_map, list_any, slice_get}
+use Rattle.std.specs.List.{AllByRecursion, filter, flat_map, slice_get}
 use Rattle.std.specs.Option.{option_map_or}
 use Rattle.std.proofs.lemmas.Bool.{eqb-true, eqb-false, false≢true}
 use Rattle.node_ids.specs.Ids.{parts_of, parts_over}
@@ -13,22 +13,22 @@ use Rattle.graph_model.proofs.ListLemmas.{filter_has, filter_only}
 use Rattle.op_model.specs.Chunks.{layers}
 use Rattle.op_model.specs.Labels.{component, label, node}
 use Rattle.op_model.specs.Operations.{ascending}
-use Rattle.op_model.specs.Valid.{IsDataset, IsBase, IsSupervoxel}
+use Rattle.op_model.specs.Valid.{IsDataset, IsBase}
 use Rattle.op_model.specs.Legal.{Legal}
 use Rattle.op_model.proofs.LabelLemmas.{same_component, own_component}
-use Rattle.op_model.proofs.LegalLemmas.{ascending_has, map_has, labels_fit, all_has}
+use Rattle.op_model.proofs.LegalLemmas.{ascending_has, map_has, labels_fit}
 use Rattle.op_model.proofs.HistoryLemmas.{legal_prefix}
 use Rattle.record_rows.specs.Rows.{Row, SupervoxelRow, NodeRow, Node}
 use Rattle.record_rows.specs.Chains.{has_id}
 use Rattle.record_rows.specs.Words.{place_from}
-use Rattle.record_rows.specs.LogRows.{chunks, children_of, new_nodes, new_links, rows_of, entry_rows, base_rows}
+use Rattle.record_rows.specs.LogRows.{chunks, children_of, new_nodes, new_links, rows_of, entry_rows}
 use Rattle.record_rows.specs.Readings.{HoldsNode}
 use Rattle.record_rows.specs.Versions.{child_at}
 use Rattle.record_rows.specs.Walks.{children_in}
 use Rattle.record_rows.proofs.CountLemmas.{component_differ}
 use Rattle.record_rows.proofs.DifferLemmas.{all_append, all_more, all_each, differ_filter}
 use Rattle.record_rows.proofs.LayerIds.{layer_told}
-use Rattle.record_rows.proofs.LinkLemmas.{IsLayer, children_all, child_layer, component_up, layer_down, of_component, same_node, supervoxel_layer}
+use Rattle.record_rows.proofs.LinkLemmas.{children_all, child_layer, component_up, layer_down, of_component, same_node, supervoxel_layer}
 use Rattle.record_rows.proofs.NodeIds.{node_layer}
 use Rattle.record_rows.proofs.NodePlaces.{found_from, known, known_later}
 use Rattle.record_rows.proofs.OnceLemmas.{all_has_self, ascending_lists, layer_low}
@@ -37,8 +37,8 @@ use Rattle.record_rows.proofs.SumLemmas.{sorted_same}
 use Rattle.timestamp_reader.specs.Spreads.{row_leaves, place_leaves, id_leaves, layer_of}
 use Rattle.timestamp_reader.proofs.ChildRows.{any_has, supervoxel_seen}
 use Rattle.timestamp_reader.proofs.LeafParts.{Rises, part, flat_same, permuted_same, parts_whole}
-use Rattle.timestamp_reader.proofs.NodeChildren.{Raised, node_raised}
-use Rattle.timestamp_reader.proofs.NodeLeaves.{Born, record_tells, one_component}
+use Rattle.timestamp_reader.proofs.NodeChildren.{node_raised}
+use Rattle.timestamp_reader.proofs.NodeLeaves.{record_tells, one_component}
 
 -- the record of this id that a search leads to
 pub found_leaves : (rows : List Row) (id place : ℕ) (row : Row) → slice_get rows place ≡ Some row → place_leaves rows place ≡ row_leaves row

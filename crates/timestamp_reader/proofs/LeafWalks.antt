@@ -1,12 +1,12 @@
 -- Nodes opened one by one: what their links' words tell, and what was found and what waits.
-use Rattle.std.proofs.Common.{◌≡◌, ℕ, zero, suc, ◌+◌, ◌-◌, ◌*◌, ◌/◌, ◌%◌, ◌^◌, ◌<◌, ◌≤◌, Bool, true, false, eqb, List, [], ◌∷◌, ◌++◌, length, take, get_or, Option, Some, None, refl, sym, ◌∙◌, ap, ap₂, subst, inl, inr, ◌⊎◌, arith, eq-eqb, append-nil, append_assoc}
+use Rattle.std.proofs.Common.{◌≡◌, ℕ, zero, suc, ◌+◌, ◌-◌, ◌*◌, ◌%◌, ◌^◌, ◌<◌, ◌≤◌, true, false, eqb, List, [], ◌∷◌, ◌++◌, length, get_or, Option, Some, None, refl, sym, ◌∙◌, ap, subst, inl, inr, ◌⊎◌, arith, eq-eqb, append-nil, append_assoc}
 use Rattle.std.specs.Prelude.{IsPermutation}
-use Rattle.std.specs.List.{AllByRecursion, All, flat_map, filter_map, slice_get, sum_by, cons_option}
+use Rattle.std.specs.List.{AllByRecursion, flat_map, filter_map, slice_get, sum_by, cons_option}
 use Rattle.std.proofs.lemmas.Bool.{eqb-true, false≢true}
 use Rattle.std.proofs.lemmas.Grind.{flat_map-append}
 use Rattle.std.proofs.lemmas.List.Elements.{All-from_recursion}
 use Rattle.std.proofs.lemmas.List.Sorted.{IsPermutation-refl, IsPermutation-sym, IsPermutation-trans, IsPermutation-middle, IsPermutation-append_left, IsPermutation-append_right, IsPermutation-append_comm}
-use Rattle.std.proofs.lemmas.List.Sums.{sum_by-append, sum_by_push, sum_by-le}
+use Rattle.std.proofs.lemmas.List.Sums.{sum_by_push, sum_by-le}
 use Rattle.std.proofs.Math.Nat.{pow-succ', one-le-pow, mul-lt-mul_of_pos_right}
 use Rattle.std.proofs.lemmas.Option.{slice_get_within}
 use Rattle.op_model.specs.declared.Dataset.{Dataset}
@@ -16,7 +16,7 @@ use Rattle.record_rows.specs.Rows.{Row, SupervoxelRow, NodeRow, LinkRow, Node, L
 use Rattle.record_rows.specs.Chains.{child_of, has_id}
 use Rattle.record_rows.specs.Images.{told}
 use Rattle.record_rows.specs.LogRows.{rows_of}
-use Rattle.record_rows.specs.Readings.{ParentImage, Holds, HoldsId, HoldsNode, HoldsSupervoxel, first_place, next_place}
+use Rattle.record_rows.specs.Readings.{ParentImage, Holds, HoldsId, HoldsNode, HoldsSupervoxel, next_place}
 use Rattle.record_rows.specs.Sorted.{id_at}
 use Rattle.record_rows.specs.Walks.{child_to, children_in}
 use Rattle.record_rows.specs.Words.{fixed_words, place_from}
@@ -26,7 +26,7 @@ use Rattle.parent_rows.proofs.Told.{Tells}
 use Rattle.timestamp_reader.specs.Spreads.{AreNodes, row_leaves, place_leaves, id_leaves, spread, layer_of, weight, weights}
 use Rattle.timestamp_reader.proofs.Climbs.{id_told}
 use Rattle.timestamp_reader.proofs.ChildRows.{child_found, child_holds}
-use Rattle.timestamp_reader.proofs.LeafMeaning.{Opened, opened, found_leaves}
+use Rattle.timestamp_reader.proofs.LeafMeaning.{found_leaves}
 
 module _ (d : Dataset) (b : Base) (log : List Entry) (words : List ℕ) (i : ParentImage d b log words) where
   -- word 2 of a link is the place of its child

@@ -3,6 +3,7 @@ pub mod EndLists
 pub mod FirstWalks
 pub mod EntryFacts
 pub mod Samples
+pub mod LeafSamples
 pub mod LeafParts
 pub mod NodeLeaves
 pub mod NodeChildren

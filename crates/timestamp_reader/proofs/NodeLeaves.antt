@@ -1,25 +1,23 @@
 -- The leaves in the record of a node: those of its entry, and so those of any later log up to which the node stays.
-use Rattle.std.proofs.Common.{◌≡◌, ℕ, zero, suc, ◌+◌, ◌-◌, ◌^◌, ◌<◌, ◌≤◌, Bool, true, false, cond, eqb, List, [], ◌∷◌, ◌++◌, length, map, refl, sym, ◌∙◌, ap, subst, inl, inr, eq-eqb, arith, append-nil, append_assoc}
-use Rattle.std.specs.List.{AllByRecursion, flat_map, list_any}
-use Rattle.std.proofs.lemmas.Bool.{or_left, false≢true}
+use Rattle.std.proofs.Common.{◌≡◌, ℕ, ◌^◌, ◌<◌, ◌≤◌, Bool, true, false, List, [], ◌∷◌, ◌++◌, map, refl, sym, ◌∙◌, ap, subst, inl, inr, arith}
+use Rattle.std.specs.List.{AllByRecursion}
 use Rattle.op_model.specs.declared.Dataset.{Dataset}
 use Rattle.op_model.specs.declared.Base.{Base}
 use Rattle.op_model.specs.declared.Entry.{Entry}
 use Rattle.graph_model.specs.Lists.{has}
 use Rattle.op_model.specs.Chunks.{chunk, members, layers}
-use Rattle.op_model.specs.Labels.{is_empty, touches, component, least, is_new, new_among, used, label, node, Joined}
+use Rattle.op_model.specs.Labels.{is_empty, component, least, is_new, new_among, used, label, node, Joined}
 use Rattle.op_model.specs.Valid.{IsDataset, IsBase}
 use Rattle.op_model.specs.Legal.{Legal}
 use Rattle.op_model.proofs.LabelLemmas.{same_component, label_joined, kept, label_new, label_used, rank_bounds}
 use Rattle.op_model.proofs.LegalLemmas.{labels_fit}
 use Rattle.op_model.proofs.HistoryLemmas.{legal_prefix, used_more}
 use Rattle.std.proofs.lemmas.Bool.{or_parts}
-use Rattle.record_rows.specs.Rows.{Row, NodeRow, Node}
-use Rattle.record_rows.specs.LogRows.{layer_chunks, children_of, new_node, layer_nodes, new_nodes, rows_of}
+use Rattle.record_rows.specs.Rows.{Node}
+use Rattle.record_rows.specs.LogRows.{layer_chunks, new_node, layer_nodes, new_nodes, rows_of}
 use Rattle.record_rows.specs.Readings.{HoldsNode}
-use Rattle.record_rows.specs.Walks.{children_in}
 use Rattle.record_rows.proofs.Listings.{nodes_of}
-use Rattle.record_rows.proofs.DifferLemmas.{Differ, all_append, all_more, all_each, all_both, all_map, all_flat}
+use Rattle.record_rows.proofs.DifferLemmas.{all_append, all_more, all_each, all_both, all_map, all_flat}
 use Rattle.record_rows.proofs.CountLemmas.{component_differ}
 use Rattle.record_rows.proofs.SumLemmas.{sorted_same}
 use Rattle.record_rows.proofs.LayerIds.{id_parts}

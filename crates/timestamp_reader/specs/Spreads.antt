@@ -1,5 +1,5 @@
 -- Leaves that were found, and nodes that are still to be opened.
-use Rattle.std.specs.Prelude.{◌≡◌, ℕ, ◌/◌, ◌^◌, List, [], ◌∷◌, ◌++◌, length, slice_index}
+use Rattle.std.specs.Prelude.{ℕ, ◌/◌, ◌^◌, List, [], ◌∷◌, ◌++◌, length}
 use Rattle.std.specs.List.{AllByRecursion, flat_map, slice_get, sum_by}
 use Rattle.std.specs.Option.{option_map_or}
 use Rattle.op_model.specs.declared.Dataset.{Dataset}

@@ -16,6 +16,8 @@
 mod entries;
 mod first_roots;
 pub mod laws;
+#[cfg(test)]
+mod leaf_tests;
 mod node_leaves;
 mod nodes;
 mod roots;

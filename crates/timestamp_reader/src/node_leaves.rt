@@ -40,7 +40,12 @@ pub fn leaves<W: Words>(alloc: Global, w: &mut W, node: Spot) -> Result<Ids, NoM
 
 /// Opens a node: puts the children that are supervoxels to the list, and those that are nodes to
 /// those that wait.
-fn open<W: Words>(w: &mut W, list: &mut Vec<NodeId>, waiting: &mut Vec<Spot>, node: Spot) -> Result<(), NoMemory>
+fn open<W: Words>(
+    w: &mut W,
+    list: &mut Vec<NodeId>,
+    waiting: &mut Vec<Spot>,
+    node: Spot,
+) -> Result<(), NoMemory>
     requires node { (d : Dataset) × (b : Base) × (log : List Entry) × (n : Node) × ParentImage d b log (W.words w.old) × HoldsNode d b log node n }
     ensures same { w.new ≡ w.old }
     ensures nodes { (d : Dataset) (b : Base) (log : List Entry) (n : Node) → ParentImage d b log (W.words w.old) → HoldsNode d b log node n → AreNodes d b log waiting.old.items → OnOk result (AreNodes d b log waiting.new.items) }
@@ -56,7 +61,12 @@ fn open<W: Words>(w: &mut W, list: &mut Vec<NodeId>, waiting: &mut Vec<Spot>, no
 }
 
 /// Puts a link's child to the list if it is a supervoxel, else to the nodes that wait.
-fn put_child<W: Words>(w: &mut W, list: &mut Vec<NodeId>, waiting: &mut Vec<Spot>, link: Spot) -> Result<(), NoMemory>
+fn put_child<W: Words>(
+    w: &mut W,
+    list: &mut Vec<NodeId>,
+    waiting: &mut Vec<Spot>,
+    link: Spot,
+) -> Result<(), NoMemory>
     requires link { (d : Dataset) × (b : Base) × (log : List Entry) × (l : Link) × ParentImage d b log (W.words w.old) × Holds d b log link (LinkRow l) }
     ensures same { w.new ≡ w.old }
     ensures nodes { (d : Dataset) (b : Base) (log : List Entry) (l : Link) → ParentImage d b log (W.words w.old) → Holds d b log link (LinkRow l) → AreNodes d b log waiting.old.items → OnOk result (AreNodes d b log waiting.new.items) }

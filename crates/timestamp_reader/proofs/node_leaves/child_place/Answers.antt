@@ -1,4 +1,4 @@
-use Rattle.std.proofs.Common.{◌≡◌, ◌∙◌, ◌<◌, sym, subst, arith}
+use Rattle.std.proofs.Common.{◌∙◌, sym, subst, arith}
 use Rattle.record_rows.specs.Readings.{HoldsId}
 use Rattle.timestamp_reader.proofs.ChildRows.{child_holds}
 use Rattle.timestamp_reader.proofs.LeafWalks.{child_told}

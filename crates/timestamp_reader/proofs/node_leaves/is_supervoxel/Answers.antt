@@ -1,4 +1,4 @@
-use Rattle.std.proofs.Common.{◌≡◌, ◌∙◌, eqb, sym, ap}
+use Rattle.std.proofs.Common.{◌∙◌, eqb, sym, ap}
 use Rattle.record_rows.proofs.ImageFacts.{within}
 use Rattle.timestamp_reader.proofs.LeafWalks.{is_leaf, is_open}
 use Rattle.timestamp_reader.proofs.node_leaves.is_supervoxel.Goals as goal

@@ -1,8 +1,7 @@
-use Rattle.std.proofs.Common.{◌≡◌, ◌∙◌, ◌<◌, ◌++◌, ◌∷◌, [], ap, sym, subst, refl}
-use Rattle.std.specs.Prelude.{IsPermutation}
+use Rattle.std.proofs.Common.{◌∙◌, ◌<◌, ◌++◌, ◌∷◌, [], ap, sym, subst, refl}
 use Rattle.record_rows.specs.LogRows.{rows_of}
 use Rattle.parent_rows.proofs.ChainWalks.{image_kept}
-use Rattle.timestamp_reader.specs.Spreads.{spread, weights}
+use Rattle.timestamp_reader.specs.Spreads.{weights}
 use Rattle.timestamp_reader.proofs.LeafMeaning.{opened}
 use Rattle.timestamp_reader.proofs.LeafParts.{sorted_again}
 use Rattle.timestamp_reader.proofs.LeafWalks.{nodes_put, nodes_taken, node_opened, spread_starts, spread_ends}

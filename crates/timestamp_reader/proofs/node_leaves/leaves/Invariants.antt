@@ -1,4 +1,4 @@
-use Rattle.std.proofs.Common.{◌≡◌, ℕ, List}
+use Rattle.std.proofs.Common.{◌≡◌, List}
 use Rattle.std.specs.Prelude.{IsPermutation}
 use Rattle.op_model.specs.declared.Dataset.{Dataset}
 use Rattle.op_model.specs.declared.Base.{Base}

@@ -1,4 +1,4 @@
-use Rattle.std.proofs.Common.{◌≡◌, ◌∙◌, ◌≤◌, ◌+◌, ◌<◌, ◌++◌, ◌∷◌, [], length, sym, subst, arith}
+use Rattle.std.proofs.Common.{◌∙◌, ◌≤◌, ◌+◌, length, subst, arith}
 use Rattle.record_rows.specs.Rows.{LinkRow}
 use Rattle.record_rows.specs.Chains.{child_of}
 use Rattle.record_rows.specs.LogRows.{rows_of}

@@ -1,4 +1,4 @@
-use Rattle.std.proofs.Common.{◌≡◌, ℕ, ◌/◌, List, length}
+use Rattle.std.proofs.Common.{◌≡◌, ◌/◌, List, length}
 use Rattle.op_model.specs.declared.Dataset.{Dataset}
 use Rattle.op_model.specs.declared.Base.{Base}
 use Rattle.op_model.specs.declared.Entry.{Entry}
