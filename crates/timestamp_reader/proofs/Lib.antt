@@ -3,3 +3,11 @@ pub mod EndLists
 pub mod FirstWalks
 pub mod EntryFacts
 pub mod Samples
+pub mod LeafSamples
+pub mod LeafParts
+pub mod NodeLeaves
+pub mod NodeChildren
+pub mod ChildRows
+pub mod LeafMeaning
+pub mod LeafWalks
+pub mod LeafLaws

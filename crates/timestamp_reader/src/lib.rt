@@ -1,21 +1,29 @@
 //! Answers from the records of memory, at any prefix of the operation log: roots and paths, from
-//! the stored parents alone, and whole entries.
+//! the stored parents alone, whole entries, and the leaves of nodes.
 //!
-//! `root_at` and `path_at` need no more than the records of supervoxels, chunks, nodes, links and
-//! entries tell (`ParentImage` of record_rows): what the records of edges, changes and items hold
-//! counts for nothing, so no root is computed anew from the edges. They take no memory.
+//! `root_at`, `path_at` and `leaves` need no more than the records of supervoxels, chunks, nodes,
+//! links and entries tell (`ParentImage` of record_rows): what the records of edges, changes and
+//! items hold counts for nothing, so no root is computed anew from the edges. The first two take no
+//! memory.
 //!
 //! - `nodes`: the nodes of a supervoxel at a prefix
+//! - `node_leaves`: the supervoxels of a node
 //! - `roots`: the roots of pairs that an entry changed
 //! - `entries`: whole entries of the log
+//! - `laws`: what holds of the records' leaves, the contract of a function that does nothing
 #![tactic(auto)]
 
 mod entries;
 mod first_roots;
+pub mod laws;
+#[cfg(test)]
+mod leaf_tests;
+mod node_leaves;
 mod nodes;
 mod roots;
 #[cfg(test)]
 mod tests;
 
 pub use entries::entry;
+pub use node_leaves::leaves;
 pub use nodes::{path_at, root_at};
