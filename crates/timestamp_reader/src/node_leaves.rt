@@ -12,6 +12,7 @@ ghost use Rattle.record_rows.specs.Readings.{Holds, HoldsId, HoldsNode, HoldsSup
 ghost use Rattle.record_rows.specs.Sorted.{id_at};
 ghost use Rattle.timestamp_reader.specs.Spreads.{AreNodes, id_leaves, spread, weight, weights};
 
+use crate::nodes::id_of;
 use node_ids::NodeId;
 use op_model::Ids;
 use pcg_base::{NoMemory, Words};
@@ -137,13 +138,4 @@ fn is_supervoxel<W: Words>(w: &mut W, spot: Spot) -> bool
     ensures no { (d : Dataset) (b : Base) (log : List Entry) (id : ℕ) → ParentImage d b log (W.words w.old) → HoldsId d b log spot id → result ≡ false → (n : Node) × HoldsNode d b log spot n × (n.id ≡ id) }
 {
     kind_of(w, spot) == 2
-}
-
-/// The id of the supervoxel or node whose record stands there.
-fn id_of<W: Words>(w: &mut W, spot: Spot) -> NodeId
-    requires id { (d : Dataset) × (b : Base) × (log : List Entry) × (id : ℕ) × ParentImage d b log (W.words w.old) × HoldsId d b log spot id }
-    ensures same { w.new ≡ w.old }
-    ensures is { (d : Dataset) (b : Base) (log : List Entry) (id : ℕ) → ParentImage d b log (W.words w.old) → HoldsId d b log spot id → result ≡ id }
-{
-    NodeId(fixed(w, spot, 1))
 }

@@ -72,7 +72,7 @@ fn above<W: Words>(w: &mut W, spot: Spot, prefix: u32) -> Spot
 }
 
 /// The id of the supervoxel or node whose record stands there.
-fn id_of<W: Words>(w: &mut W, spot: Spot) -> NodeId
+pub fn id_of<W: Words>(w: &mut W, spot: Spot) -> NodeId
     requires id { (d : Dataset) × (b : Base) × (log : List Entry) × (id : ℕ) × ParentImage d b log (W.words w.old) × HoldsId d b log spot id }
     ensures same { w.new ≡ w.old }
     ensures is { (d : Dataset) (b : Base) (log : List Entry) (id : ℕ) → ParentImage d b log (W.words w.old) → HoldsId d b log spot id → result ≡ id }
