@@ -5,6 +5,7 @@ ghost use Rattle.std.specs.Prelude.{◌≡◌};
 ghost use Rattle.record_rows.specs.Samples.{words_halved};
 
 use crate::leaves;
+use node_ids::NodeId;
 use op_model::Ids;
 use pcg_base::{NoMemory, VecWords};
 use row_samples::{P, Q, R, S, halved};
@@ -45,8 +46,14 @@ fn leaves_are_found(rt: HostRuntime) -> Result<(), NoMemory> {
     let merged = of_merged_root(rt.alloc(), &mut w)?;
     let split = of_split_root(rt.alloc(), &mut w)?;
     let lower = of_lower_node(rt.alloc(), &mut w)?;
-    assert_eq!(rt; merged.list.as_slice(), [P, Q, R, S].as_slice());
-    assert_eq!(rt; split.list.as_slice(), [P, Q, R].as_slice());
-    assert_eq!(rt; lower.list.as_slice(), [R, S].as_slice());
+    assert_eq!(rt;
+        merged.list.as_slice(),
+        [NodeId(P), NodeId(Q), NodeId(R), NodeId(S)].as_slice()
+    );
+    assert_eq!(rt;
+        split.list.as_slice(),
+        [NodeId(P), NodeId(Q), NodeId(R)].as_slice()
+    );
+    assert_eq!(rt; lower.list.as_slice(), [NodeId(R), NodeId(S)].as_slice());
     Ok(())
 }
