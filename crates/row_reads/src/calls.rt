@@ -1,0 +1,182 @@
+//! Each call at the place of a record, where a record of its kind stands there.
+
+ghost use Rattle.std.specs.Prelude.{◌≡◌, true};
+ghost use Rattle.row_reads.specs.Kinds.{HasKind, IsSample};
+
+use edge_rows::{last_change, last_edge, state_at};
+use log_rows::{changed, next_change};
+use op_model::{Changed, Ids};
+use parent_rows::{
+    NodeRow, children, ended, first_node, last_node, last_version, next_node, node, parent_at,
+};
+use pcg_base::{NoMemory, VecWords, Words};
+use row_words::{Spot, kind_of};
+use std::alloc::Global;
+
+const SUPERVOXEL: u8 = 2;
+
+const CHUNK: u8 = 3;
+
+const NODE: u8 = 4;
+
+const EDGE: u8 = 6;
+
+const CHANGE: u8 = 7;
+
+/// Whether a record of this kind stands at the place.
+fn is_kind(w: &mut VecWords, place: u32, kind: u8) -> bool
+    ensures same { w.new ≡ w.old }
+    ensures is { result ≡ true → HasKind w.old.words place kind }
+{
+    if place as u64 >= w.len() / 8 {
+        return false;
+    }
+    kind_of(w, Spot(place)) == kind
+}
+
+pub fn node_at(w: &mut VecWords, place: u32) -> Option<NodeRow>
+    requires sample { IsSample w.old.words }
+    ensures same { w.new ≡ w.old }
+{
+    if is_kind(w, place, NODE) {
+        Some(node(w, Spot(place)))
+    } else {
+        None
+    }
+}
+
+pub fn ended_at(w: &mut VecWords, place: u32, prefix: u32) -> Option<u32>
+    requires sample { IsSample w.old.words }
+    ensures same { w.new ≡ w.old }
+{
+    if is_kind(w, place, NODE) {
+        ended(w, Spot(place), prefix)
+    } else {
+        None
+    }
+}
+
+pub fn next_at(w: &mut VecWords, place: u32) -> Option<Spot>
+    requires sample { IsSample w.old.words }
+    ensures same { w.new ≡ w.old }
+{
+    if is_kind(w, place, NODE) {
+        next_node(w, Spot(place))
+    } else {
+        None
+    }
+}
+
+pub fn children_at(alloc: Global, w: &mut VecWords, place: u32) -> Result<Ids, NoMemory>
+    requires sample { IsSample w.old.words }
+    ensures same { w.new ≡ w.old }
+{
+    if is_kind(w, place, NODE) {
+        children(alloc, w, Spot(place))
+    } else {
+        Ok(Ids {
+            list: Vec::new(alloc),
+        })
+    }
+}
+
+/// Of a node.
+pub fn version_at(w: &mut VecWords, place: u32) -> Option<Spot>
+    requires sample { IsSample w.old.words }
+    ensures same { w.new ≡ w.old }
+{
+    if is_kind(w, place, NODE) {
+        last_version(w, Spot(place))
+    } else {
+        None
+    }
+}
+
+/// Of a node.
+pub fn parent_of(w: &mut VecWords, place: u32, prefix: u32) -> Option<Spot>
+    requires sample { IsSample w.old.words }
+    ensures same { w.new ≡ w.old }
+{
+    if is_kind(w, place, NODE) {
+        parent_at(w, Spot(place), prefix)
+    } else {
+        None
+    }
+}
+
+pub fn first_at(w: &mut VecWords, place: u32) -> Option<Spot>
+    requires sample { IsSample w.old.words }
+    ensures same { w.new ≡ w.old }
+{
+    if is_kind(w, place, CHUNK) {
+        first_node(w, Spot(place))
+    } else {
+        None
+    }
+}
+
+pub fn last_at(w: &mut VecWords, place: u32) -> Option<Spot>
+    requires sample { IsSample w.old.words }
+    ensures same { w.new ≡ w.old }
+{
+    if is_kind(w, place, CHUNK) {
+        last_node(w, Spot(place))
+    } else {
+        None
+    }
+}
+
+pub fn edge_at(w: &mut VecWords, place: u32) -> Option<Spot>
+    requires sample { IsSample w.old.words }
+    ensures same { w.new ≡ w.old }
+{
+    if is_kind(w, place, SUPERVOXEL) {
+        last_edge(w, Spot(place))
+    } else {
+        None
+    }
+}
+
+pub fn change_at(w: &mut VecWords, place: u32) -> Option<Spot>
+    requires sample { IsSample w.old.words }
+    ensures same { w.new ≡ w.old }
+{
+    if is_kind(w, place, EDGE) {
+        last_change(w, Spot(place))
+    } else {
+        None
+    }
+}
+
+pub fn is_active(w: &mut VecWords, place: u32, prefix: u32) -> bool
+    requires sample { IsSample w.old.words }
+    ensures same { w.new ≡ w.old }
+{
+    if is_kind(w, place, EDGE) {
+        state_at(w, Spot(place), prefix)
+    } else {
+        false
+    }
+}
+
+pub fn changed_at(w: &mut VecWords, place: u32) -> Option<Changed>
+    requires sample { IsSample w.old.words }
+    ensures same { w.new ≡ w.old }
+{
+    if is_kind(w, place, CHANGE) {
+        Some(changed(w, Spot(place)))
+    } else {
+        None
+    }
+}
+
+pub fn following(w: &mut VecWords, place: u32) -> Option<Spot>
+    requires sample { IsSample w.old.words }
+    ensures same { w.new ≡ w.old }
+{
+    if is_kind(w, place, CHANGE) {
+        next_change(w, Spot(place))
+    } else {
+        None
+    }
+}
