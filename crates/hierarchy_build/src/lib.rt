@@ -1,0 +1,6 @@
+//! The octree of components of a base, layer by layer.
+#![tactic(auto)]
+
+pub mod levels;
+mod lists;
+pub mod places;
