@@ -4,3 +4,4 @@
 pub mod levels;
 mod lists;
 pub mod places;
+pub mod rising;
