@@ -1,2 +1,4 @@
 pub mod Placing
 pub mod Joining
+pub mod Steps
+pub mod Grouping

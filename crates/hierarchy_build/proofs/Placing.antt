@@ -62,7 +62,7 @@ middle_more xs v m a h more = elim (cases_lt m (place_of xs v)) [
 ]
 
 module _ {X : Type 0} (t : X → Bool) where
-  none_kept : (xs : List X) → ((i : ℕ) (d : X) → i < length xs → t (get_or xs i d) ≡ false) → filter t xs ≡ []
+  pub none_kept : (xs : List X) → ((i : ℕ) (d : X) → i < length xs → t (get_or xs i d) ≡ false) → filter t xs ≡ []
   none_kept [] f = refl
   none_kept (x ∷ xs) f = ap (λ k. cond k (x ∷ filter t xs) (filter t xs)) (f 0 x (omega arith)) ∙ none_kept xs (λ i d l. f (suc i) d (omega arith))
 
