@@ -89,7 +89,7 @@ module _ {X : Type 0} (n : X → ℕ) where
           (all_filter (λ x. not (eqb (n x) c)) (λ x. has (c ∷ cs) (n x) ≡ true) xs (recursion_from_All (λ x. has (c ∷ cs) (n x) ≡ true) xs a)))
 
 -- the nodes of one chunk with numbers from k on
-pub up_from : ℕ → List Owner → List Made
+unfoldable pub up_from : ℕ → List Owner → List Made
 up_from k [] = []
 up_from k (o ∷ os) = record { id = o.chunk + k; chunk = o.chunk; least = o.least } ∷ up_from (k + 1) os
 
@@ -125,18 +125,19 @@ over_in limit c k [] rest i l =
     let e : k ≡ k + 0 = omega arith in
     ap (λ m. overflow limit c m rest) e ∙ sym (ap (λ t. cond t (Some c) (overflow limit c (k + 0) rest)) (false_from_ne_true _ (λ h. let m = leb-true _ _ h in omega arith)))
 over_in limit c k (o ∷ os) rest i l =
-    ap (λ m. cond (leb limit m) (Some o.chunk) (overflow limit o.chunk m (os ++ rest))) (behind_same c k o.chunk i.0) ∙ go (leb limit (k + 1)) refl
+    ap (λ m. cond (leb limit m) (Some o.chunk) (overflow limit o.chunk m (os ++ rest))) (behind_same c k o.chunk i.0) ∙ go (leb limit (k + 1)) refl (over_in limit c (k + 1) os rest i.1)
   where
     s : k + 1 + length os ≡ k + suc (length os)
     s = omega arith
 
     go : (t : Bool) → leb limit (k + 1) ≡ t
+        → (k + 1 < limit → overflow limit c (k + 1) (os ++ rest) ≡ cond (leb limit (k + 1 + length os)) (Some c) (overflow limit c (k + 1 + length os) rest))
         → cond t (Some o.chunk) (overflow limit o.chunk (k + 1) (os ++ rest)) ≡ cond (leb limit (k + suc (length os))) (Some c) (overflow limit c (k + suc (length os)) rest)
-    go true e =
+    go true e ih =
         ap (λ x. Some x) i.0 ∙ sym (ap (λ t. cond t (Some c) (overflow limit c (k + suc (length os)) rest)) (le-leb limit (k + suc (length os)) (let m = leb-true _ _ e in omega arith)))
-    go false e =
+    go false e ih =
         ap (λ x. overflow limit x (k + 1) (os ++ rest)) i.0
-        ∙ (over_in limit c (k + 1) os rest i.1 (let m = leb-false _ _ e in omega arith) ∙ ap (λ m. cond (leb limit m) (Some c) (overflow limit c m rest)) s)
+        ∙ (ih (let m = leb-false _ _ e in omega arith) ∙ ap (λ m. cond (leb limit m) (Some c) (overflow limit c m rest)) s)
 
 module _ (g : ℕ → List Owner) where
   apart : (c : ℕ) (cs : List ℕ) → AllByRecursion (λ e. c < e) cs → AllByRecursion (λ e. e ≡ c → ⊥) cs
@@ -146,28 +147,32 @@ module _ (g : ℕ → List Owner) where
       → numbered last l (flat_map g cs) ≡ flat_map (λ c. up_from 1 (g c)) cs
   unfolding numbered up_from
   num_groups [] u a last l f = refl
-  num_groups (c ∷ cs) u a last l f = one (g c) a.0
+  num_groups (c ∷ cs) u a last l f = one (g c) a.0 (num_groups cs u.1 a.1)
     where
-      one : (os : List Owner) → In c os → numbered last l (os ++ flat_map g cs) ≡ up_from 1 os ++ flat_map (λ e. up_from 1 (g e)) cs
-      one [] i = num_groups cs u.1 a.1 last l f.1
-      one (o ∷ os) i =
+      one : (os : List Owner) → In c os
+          → ((last l : ℕ) → AllByRecursion (λ e. e ≡ last → ⊥) cs → numbered last l (flat_map g cs) ≡ flat_map (λ e. up_from 1 (g e)) cs)
+          → numbered last l (os ++ flat_map g cs) ≡ up_from 1 os ++ flat_map (λ e. up_from 1 (g e)) cs
+      one [] i ih = ih last l f.1
+      one (o ∷ os) i ih =
           num_head last l c 0 o (os ++ flat_map g cs) (behind_other last l o.chunk c i.0 f.0 ∙ sym (behind_same c 0 o.chunk i.0))
           ∙ (num_in c 0 (o ∷ os) (flat_map g cs) i
-          ∙ ap (λ ms. up_from 1 (o ∷ os) ++ ms) (num_groups cs u.1 a.1 c (0 + length (o ∷ os)) (apart c cs u.0)))
+          ∙ ap (λ ms. up_from 1 (o ∷ os) ++ ms) (ih c (0 + length (o ∷ os)) (apart c cs u.0)))
 
   pub over_groups : (limit : ℕ) → 0 < limit → (cs : List ℕ) → Differ (λ x y. x < y) cs → AllByRecursion (λ c. In c (g c)) cs → (last l : ℕ) → AllByRecursion (λ c. c ≡ last → ⊥) cs
       → overflow limit last l (flat_map g cs) ≡ find (λ c. leb limit (length (g c))) cs
   unfolding overflow
   over_groups limit some [] u a last l f = refl
-  over_groups limit some (c ∷ cs) u a last l f = one (g c) a.0
+  over_groups limit some (c ∷ cs) u a last l f = one (g c) a.0 (over_groups limit some cs u.1 a.1)
     where
-      one : (os : List Owner) → In c os → overflow limit last l (os ++ flat_map g cs) ≡ cond (leb limit (length os)) (Some c) (find (λ e. leb limit (length (g e))) cs)
-      one [] i =
-          over_groups limit some cs u.1 a.1 last l f.1
+      one : (os : List Owner) → In c os
+          → ((last l : ℕ) → AllByRecursion (λ e. e ≡ last → ⊥) cs → overflow limit last l (flat_map g cs) ≡ find (λ e. leb limit (length (g e))) cs)
+          → overflow limit last l (os ++ flat_map g cs) ≡ cond (leb limit (length os)) (Some c) (find (λ e. leb limit (length (g e))) cs)
+      one [] i ih =
+          ih last l f.1
           ∙ sym (ap (λ t. cond t (Some c) (find (λ e. leb limit (length (g e))) cs)) (false_from_ne_true _ (λ h. let m = leb-true limit 0 h in omega arith)))
-      one (o ∷ os) i =
+      one (o ∷ os) i ih =
           let s : 0 + length (o ∷ os) ≡ length (o ∷ os) = omega arith in
           over_head limit last l c 0 o (os ++ flat_map g cs) (behind_other last l o.chunk c i.0 f.0 ∙ sym (behind_same c 0 o.chunk i.0))
           ∙ (over_in limit c 0 (o ∷ os) (flat_map g cs) i some
-          ∙ (ap (λ x. cond (leb limit (0 + length (o ∷ os))) (Some c) x) (over_groups limit some cs u.1 a.1 c (0 + length (o ∷ os)) (apart c cs u.0))
+          ∙ (ap (λ x. cond (leb limit (0 + length (o ∷ os))) (Some c) x) (ih c (0 + length (o ∷ os)) (apart c cs u.0))
           ∙ ap (λ m. cond (leb limit m) (Some c) (find (λ e. leb limit (length (g e))) cs)) s))

@@ -2,3 +2,4 @@ pub mod Placing
 pub mod Joining
 pub mod Steps
 pub mod Grouping
+pub mod LayerNodes

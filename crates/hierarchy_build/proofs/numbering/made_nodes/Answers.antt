@@ -1,2 +1,60 @@
-use Rattle.hierarchy_build.proofs.Grouping.{num_groups, over_groups, grouped}
+use Rattle.std.proofs.Common.{◌≡◌, ◌<◌, ◌≤◌, ◌^◌, List, length, map, None, Some, sym, ◌∙◌, ap, subst, refl, arith}
+use Rattle.std.specs.List.{All}
+use Rattle.hierarchy_build.specs.declared.numbering.Owner.{Owner}
+use Rattle.hierarchy_build.specs.Numbers.{AreByChunk, OfSpent, numbered, overflow, owners, told, spent_in}
+use Rattle.hierarchy_build.proofs.LayerNodes.{small_keys, few_keys, nodes_told, spent_is, labels_fit}
 use Rattle.hierarchy_build.proofs.numbering.made_nodes.Goals as goal
+
+pub owners-requires-clause-count : goal.owners-requires-clause-count
+owners-requires-clause-count c = (c.requires.firsts 0).count
+
+pub returns-in_default-clause-spent : goal.returns-in_default-clause-spent
+unfolding OfSpent
+returns-in_default-clause-spent c = tt
+
+pub returns-in_default-by_chunk-clause-spent : goal.returns-in_default-by_chunk-clause-spent
+unfolding OfSpent
+returns-in_default-by_chunk-clause-spent c = tt
+
+pub returns-in-Some-clause-spent : goal.returns-in-Some-clause-spent
+unfolding OfSpent
+returns-in-Some-clause-spent c = (
+  refl,
+  λ now.
+      let by = subst (λ ns. AreByChunk ns c.in-Ok-by_chunk.list.items) c.in-Ok.ensures c.in-Ok-by_chunk.ensures in
+      sym (spent_is c.args.dataset.now c.args.base.now c.requires.dataset c.requires.base now c.args.layer c.requires.layer.0 c.requires.layer.1 c.args.firsts.now (c.requires.firsts now) c.in-Ok-by_chunk.list.items by
+      c.segments.result c.segments.ensures.range.0 c.segments.ensures.is)
+      ∙ (ap (overflow c.segments.result 0 0) (sym c.deref.ensures.value) ∙ (sym c.overflow.ensures ∙ c.in-Some.is)),
+)
+
+pub numbered-requires-clause-small : goal.numbered-requires-clause-small
+numbered-requires-clause-small c =
+    let by = subst (λ ns. AreByChunk ns c.in-Ok-by_chunk.list.items) c.in-Ok.ensures c.in-Ok-by_chunk.ensures in
+    subst (λ ks. All (λ (o : Owner). o.chunk < 2 ^ 62) ks) (sym c.deref-2.ensures.value)
+    (small_keys c.args.dataset.now c.args.base.now c.requires.dataset c.requires.base 0 c.args.layer c.requires.layer.0 c.requires.layer.1 c.args.firsts.now (c.requires.firsts 0) c.in-Ok-by_chunk.list.items by)
+
+pub numbered-requires-clause-size : goal.numbered-requires-clause-size
+numbered-requires-clause-size c =
+    let by = subst (λ ns. AreByChunk ns c.in-Ok-by_chunk.list.items) c.in-Ok.ensures c.in-Ok-by_chunk.ensures in
+    let few = few_keys c.args.dataset.now c.args.base.now c.requires.dataset c.requires.base 0 c.args.layer c.requires.layer.0 c.requires.layer.1 c.args.firsts.now (c.requires.firsts 0) c.in-Ok-by_chunk.list.items by in
+    let e : length c.deref-2.result.now ≡ length c.in-Ok-by_chunk.list.items = ap length c.deref-2.ensures.value in
+    let size = c.requires.size in
+    omega (arith, few, e, size)
+
+pub returns-in-Ok-numbered-clause-made : goal.returns-in-Ok-numbered-clause-made
+returns-in-Ok-numbered-clause-made c now =
+    let by = subst (λ ns. AreByChunk ns c.in-Ok-by_chunk.list.items) c.in-Ok.ensures c.in-Ok-by_chunk.ensures in
+    ap (map (told c.args.base.now)) (c.in-Ok-numbered.ensures ∙ ap (numbered 0 0) c.deref-2.ensures.value)
+    ∙ nodes_told c.args.dataset.now c.args.base.now c.requires.dataset c.requires.base now c.args.layer c.requires.layer.0 c.requires.layer.1 c.args.firsts.now (c.requires.firsts now) c.in-Ok-by_chunk.list.items by
+
+pub returns-in-Ok-numbered-clause-fit : goal.returns-in-Ok-numbered-clause-fit
+returns-in-Ok-numbered-clause-fit c now =
+    let by = subst (λ ns. AreByChunk ns c.in-Ok-by_chunk.list.items) c.in-Ok.ensures c.in-Ok-by_chunk.ensures in
+    labels_fit c.args.dataset.now c.args.base.now c.requires.dataset c.requires.base now c.args.layer c.requires.layer.0 c.requires.layer.1 c.args.firsts.now (c.requires.firsts now)
+    (sym (spent_is c.args.dataset.now c.args.base.now c.requires.dataset c.requires.base now c.args.layer c.requires.layer.0 c.requires.layer.1 c.args.firsts.now (c.requires.firsts now) c.in-Ok-by_chunk.list.items by
+    c.segments.result c.segments.ensures.range.0 c.segments.ensures.is)
+    ∙ (ap (overflow c.segments.result 0 0) (sym c.deref.ensures.value) ∙ (sym c.overflow.ensures ∙ c.in_default-overflow.is)))
+
+pub returns-clause-spent : goal.returns-clause-spent
+unfolding OfSpent
+returns-clause-spent c = tt
