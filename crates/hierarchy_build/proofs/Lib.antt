@@ -3,3 +3,4 @@ pub mod Joining
 pub mod Steps
 pub mod Grouping
 pub mod LayerNodes
+pub mod AllLayers

@@ -63,7 +63,7 @@ range_longer : (a n : ℕ) → range_with_len a (suc n) ≡ range_with_len a n +
 range_longer a zero = ap (λ k. k ∷ []) (let e : a ≡ a + zero = omega arith in e)
 range_longer a (suc n) = ap (λ ks. a ∷ ks) (range_longer (a + 1) n ∙ ap (λ k. range_with_len (a + 1) n ++ k ∷ []) (let e : a + 1 + n ≡ a + suc n = omega arith in e))
 
-range_more : (n : ℕ) → range_with_len 0 (n + 1) ≡ range_with_len 0 n ++ n ∷ []
+pub range_more : (n : ℕ) → range_with_len 0 (n + 1) ≡ range_with_len 0 n ++ n ∷ []
 range_more n = rw add-one (range_longer 0 n ∙ ap (λ k. range_with_len 0 n ++ k ∷ []) (let e : 0 + n ≡ n = omega arith in e))
 
 pub owners_more : (d : Dataset) (b : Base) (layer : ℕ) (firsts : List ℕ) (i : ℕ) (done more : List Owner)

@@ -2,6 +2,7 @@
 #![tactic(auto)]
 
 pub mod errors;
+pub mod layers;
 pub mod levels;
 mod lists;
 pub mod numbering;

@@ -212,6 +212,7 @@ pub fn made_nodes(
     requires size { length base.now.supervoxels < 2 ^ 32 }
     requires firsts { (now : ℕ) → AreLeastLeaves dataset.now base.now (ingested dataset.now base.now now) layer firsts.now }
     ensures made { IfOk result (λ v. (now : ℕ) → map (told base.now) v.items ≡ map told_node (layer_nodes dataset.now base.now (ingested dataset.now base.now now) 0 layer)) }
+    ensures room { OnOk result ((now : ℕ) → spent_in dataset.now base.now (ingested dataset.now base.now now) layer ≡ None) }
     ensures fit { OnOk result ((now : ℕ) → LabelsFitIn dataset.now base.now (ingested dataset.now base.now now) layer) }
     ensures spent { IfErr result (OfSpent (λ at c. (at ≡ layer) × ((now : ℕ) → spent_in dataset.now base.now (ingested dataset.now base.now now) layer ≡ Some c))) }
 {

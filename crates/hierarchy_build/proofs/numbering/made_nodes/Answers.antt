@@ -47,13 +47,17 @@ returns-in-Ok-numbered-clause-made c now =
     ap (map (told c.args.base.now)) (c.in-Ok-numbered.ensures ∙ ap (numbered 0 0) c.deref-2.ensures.value)
     ∙ nodes_told c.args.dataset.now c.args.base.now c.requires.dataset c.requires.base now c.args.layer c.requires.layer.0 c.requires.layer.1 c.args.firsts.now (c.requires.firsts now) c.in-Ok-by_chunk.list.items by
 
+pub returns-in-Ok-numbered-clause-room : goal.returns-in-Ok-numbered-clause-room
+returns-in-Ok-numbered-clause-room c now =
+    let by = subst (λ ns. AreByChunk ns c.in-Ok-by_chunk.list.items) c.in-Ok.ensures c.in-Ok-by_chunk.ensures in
+    sym (spent_is c.args.dataset.now c.args.base.now c.requires.dataset c.requires.base now c.args.layer c.requires.layer.0 c.requires.layer.1 c.args.firsts.now (c.requires.firsts now) c.in-Ok-by_chunk.list.items by
+    c.segments.result c.segments.ensures.range.0 c.segments.ensures.is)
+    ∙ (ap (overflow c.segments.result 0 0) (sym c.deref.ensures.value) ∙ (sym c.overflow.ensures ∙ c.in_default-overflow.is))
+
 pub returns-in-Ok-numbered-clause-fit : goal.returns-in-Ok-numbered-clause-fit
 returns-in-Ok-numbered-clause-fit c now =
-    let by = subst (λ ns. AreByChunk ns c.in-Ok-by_chunk.list.items) c.in-Ok.ensures c.in-Ok-by_chunk.ensures in
     labels_fit c.args.dataset.now c.args.base.now c.requires.dataset c.requires.base now c.args.layer c.requires.layer.0 c.requires.layer.1 c.args.firsts.now (c.requires.firsts now)
-    (sym (spent_is c.args.dataset.now c.args.base.now c.requires.dataset c.requires.base now c.args.layer c.requires.layer.0 c.requires.layer.1 c.args.firsts.now (c.requires.firsts now) c.in-Ok-by_chunk.list.items by
-    c.segments.result c.segments.ensures.range.0 c.segments.ensures.is)
-    ∙ (ap (overflow c.segments.result 0 0) (sym c.deref.ensures.value) ∙ (sym c.overflow.ensures ∙ c.in_default-overflow.is)))
+    (returns-in-Ok-numbered-clause-room c now)
 
 pub returns-clause-spent : goal.returns-clause-spent
 unfolding OfSpent

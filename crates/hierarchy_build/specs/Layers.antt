@@ -1,0 +1,31 @@
+-- The layers of a base's octree as they are built.
+use Rattle.std.specs.Prelude.{◌≡◌, ℕ, ◌+◌, ◌≤◌, ◌<◌, List, [], ◌∷◌, map, Some, None}
+use Rattle.op_model.specs.declared.Dataset.{Dataset}
+use Rattle.op_model.specs.declared.Base.{Base}
+use Rattle.op_model.specs.declared.Entry.{Entry}
+use Rattle.op_model.specs.Chunks.{top}
+use Rattle.record_rows.specs.LogRows.{layer_nodes}
+use Rattle.layer_laws.specs.Building.{AreLeastLeaves}
+use Rattle.hierarchy_build.specs.declared.layers.Layer.{Layer}
+use Rattle.hierarchy_build.specs.Numbers.{told, told_node, spent_in}
+
+-- the layer has the place of the least leaf for each supervoxel, and its nodes in the order of their records
+pub record IsLayer (d : Dataset) (b : Base) (log : List Entry) (layer : ℕ) (l : Layer) : Type 0 where
+  pub firsts : AreLeastLeaves d b log layer l.firsts.items
+  pub made : map (told b) l.made.items ≡ map told_node (layer_nodes d b log 0 layer)
+
+-- these are the layers from this one on
+abbrev pub AreLayers : Dataset → Base → List Entry → ℕ → List Layer → Type 0
+AreLayers d b log layer [] = Unit {0}
+AreLayers d b log layer (l ∷ ls) = IsLayer d b log layer l × AreLayers d b log (layer + 1) ls
+
+-- the least leaves of the last layer, or others where there is none
+unfoldable pub last_firsts : List ℕ → List Layer → List ℕ
+last_firsts firsts [] = firsts
+last_firsts firsts (l ∷ ls) = last_firsts l.firsts.items ls
+
+-- this is the first chunk, by layers and then by ids, that has given a number which its ids don't hold
+pub record IsFirstSpent (d : Dataset) (b : Base) (log : List Entry) (layer c : ℕ) : Type 0 where
+  pub within : (2 ≤ layer) × (layer ≤ top d)
+  pub spent : spent_in d b log layer ≡ Some c
+  pub before : (l : ℕ) → 2 ≤ l → l < layer → spent_in d b log l ≡ None
