@@ -18,4 +18,3 @@ returns c =
     let e = packs c.args.dataset.now c.requires.dataset c.args.layer c.requires.layer.1 c.args.sv c.requires.sv
     c.unpack-parts.result c.chunk_at-cell.result c.pack.result c.unpack-parts.ensures c.chunk_at-cell.ensures c.pack.ensures in
     let f = c.in-Ok.is in cc
-
