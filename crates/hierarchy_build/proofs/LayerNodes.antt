@@ -1,12 +1,12 @@
 -- The nodes of a layer in the order of their records are its least leaves by their chunks, with numbers from 1 on.
 use Rattle.std.proofs.Common.{◌≡◌, ℕ, zero, suc, ◌+◌, ◌*◌, ◌<◌, ◌≤◌, ◌^◌, Bool, true, false, cond, ◌&&◌, eqb, leb, List, [], ◌∷◌, ◌++◌, length, map, get_or, Option, Some, None, refl, sym, ◌∙◌, ap, subst, inl, inr, arith, eq-eqb, le-leb}
-use Rattle.std.specs.List.{AllByRecursion, All, filter, flat_map, find, range_with_len}
+use Rattle.std.specs.List.{AllByRecursion, All, filter, flat_map, find, list_any, range_with_len}
 use Rattle.std.specs.List.Sorted.{IsPermutation, IsNonDecreasingBy}
 use Rattle.std.proofs.lemmas.List.{length-map}
 use Rattle.std.proofs.lemmas.List.FromFn.{length-range_with_len}
 use Rattle.std.proofs.lemmas.List.Elements.{All-from_recursion, recursion_from_All}
-use Rattle.std.proofs.lemmas.List.Sorted.{All-permutation, length_permutation}
-use Rattle.std.proofs.lemmas.Bool.{eqb-true, leb-false, and_parts, and_from}
+use Rattle.std.proofs.lemmas.List.Sorted.{All-permutation, length_permutation, list_any-IsPermutation}
+use Rattle.std.proofs.lemmas.Bool.{eqb-true, leb-false, and_parts, and_from, or_left, or_right, or_cases}
 use Rattle.node_ids.specs.Ids.{segments, id_of, id_over}
 use Rattle.op_model.specs.declared.Dataset.{Dataset}
 use Rattle.op_model.specs.declared.Base.{Base}
@@ -32,36 +32,25 @@ use Rattle.plain_hierarchy.specs.Ingest.{ingested}
 use Rattle.plain_hierarchy.proofs.Places.{chunk_small, top_low}
 use Rattle.hierarchy_build.specs.declared.numbering.Owner.{Owner}
 use Rattle.hierarchy_build.specs.declared.numbering.Made.{Made}
-use Rattle.hierarchy_build.specs.Numbers.{owner, owners, AreByChunk, numbered, overflow, told, told_node, spent_in, LabelsFitIn}
+use Rattle.hierarchy_build.specs.Numbers.{owner, owners, AreByChunk, IsOwn, leaves_at, node_of, number_behind, numbered, overflow, told, told_node, spent_in, LabelsFitIn}
+use Rattle.components.proofs.Least.{has_below}
 use Rattle.hierarchy_build.proofs.Joining.{filter_both}
+use Rattle.hierarchy_build.proofs.Leaves.{filter_of_map, map_twice, whole, range_in, leads_to_itself, leaves_stand}
 use Rattle.hierarchy_build.proofs.Grouping.{In, up_from, flat_same, map_flat, grouped, num_groups, over_groups}
 
-filter_of_map : {X Y : Type 0} (t : Y → Bool) (f : X → Y) (xs : List X) → filter t (map f xs) ≡ map f (filter (λ x. t (f x)) xs)
-filter_of_map t f [] = refl
-filter_of_map {X} {Y} t f (x ∷ xs) = go (t (f x)) (filter_of_map t f xs)
-  where
-    go : (k : Bool) → filter t (map f xs) ≡ map f (filter (λ y. t (f y)) xs) → cond k (f x ∷ filter t (map f xs)) (filter t (map f xs)) ≡ map f (cond k (x ∷ filter (λ y. t (f y)) xs) (filter (λ y. t (f y)) xs))
-    go true ih = ap (λ ys. f x ∷ ys) ih
-    go false ih = ih
+numbered_all : (P : ℕ → Type 0) (last l : ℕ) (os : List Owner) → AllByRecursion (λ (o : Owner). P o.least) os → AllByRecursion (λ (m : Made). P m.least) (numbered last l os)
+unfolding numbered
+numbered_all P last l [] a = tt
+numbered_all P last l (o ∷ os) a = (a.0, numbered_all P o.chunk (number_behind last l o.chunk) os a.1)
 
-map_twice : {X Y Z : Type 0} (g : Y → Z) (f : X → Y) (xs : List X) → map g (map f xs) ≡ map (λ x. g (f x)) xs
-map_twice g f [] = refl
-map_twice g f (x ∷ xs) = ap (λ ys. g (f x) ∷ ys) (map_twice g f xs)
+numbered_has : (j last l : ℕ) (os : List Owner) → list_any (λ (o : Owner). eqb o.least j) os ≡ true → has (map (λ (m : Made). m.least) (numbered last l os)) j ≡ true
+unfolding numbered
+numbered_has j last l [] h = h
+numbered_has j last l (o ∷ os) h = elim (or_cases (eqb o.least j) _ h) [ inl a ↦ or_left _ _ a | inr b ↦ or_right _ _ (numbered_has j o.chunk (number_behind last l o.chunk) os b) ]
 
-shifted : (x : ℕ) (xs : List ℕ) (a n : ℕ) → map (λ i. get_or (x ∷ xs) i 0) (range_with_len (suc a) n) ≡ map (λ i. get_or xs i 0) (range_with_len a n)
-shifted x xs a zero = refl
-shifted x xs a (suc n) =
-    let e : suc a + 1 ≡ suc (a + 1) = omega arith in
-    ap (λ ys. get_or xs a 0 ∷ ys) (ap (λ k. map (λ i. get_or (x ∷ xs) i 0) (range_with_len k n)) e ∙ shifted x xs (a + 1) n)
-
--- a list is what stands at its places
-whole : (xs : List ℕ) → map (λ i. get_or xs i 0) (range_with_len 0 (length xs)) ≡ xs
-whole [] = refl
-whole (x ∷ xs) = ap (λ ys. x ∷ ys) (shifted x xs 0 (length xs) ∙ whole xs)
-
-range_in : (a n i : ℕ) → has (range_with_len a n) i ≡ true → i < a + n
-range_in a zero i h = has_none i h
-range_in a (suc n) i h = elim (has_cases a (range_with_len (a + 1) n) i h) [ inl e ↦ omega arith | inr g ↦ let l = range_in (a + 1) n i g in omega arith ]
+owners_has : (d : Dataset) (b : Base) (layer j : ℕ) (is : List ℕ) → has is j ≡ true → list_any (λ (o : Owner). eqb o.least j) (map (owner d b layer) is) ≡ true
+owners_has d b layer j [] h = h
+owners_has d b layer j (i ∷ is) h = elim (or_cases (eqb i j) _ h) [ inl a ↦ or_left _ _ a | inr c ↦ or_right _ _ (owners_has d b layer j is c) ]
 
 module _ (d : Dataset) (b : Base) (valid : IsDataset d) (base : IsBase d b) (now layer : ℕ) (two : 2 ≤ layer) (high : layer ≤ top d)
     (firsts : List ℕ) (are : AreLeastLeaves d b (ingested d b now) layer firsts) where
@@ -171,9 +160,13 @@ module _ (d : Dataset) (b : Base) (valid : IsDataset d) (base : IsBase d b) (now
       all_more (λ (o : Owner). Unit {0} × (eqb o.chunk c ≡ true)) (λ o. o.chunk ≡ c) (group c) (λ o p. eqb-true o.chunk c p.1)
       (all_filter (λ (o : Owner). eqb o.chunk c) (λ o. Unit {0}) (owners d b layer firsts) (all_each (λ o. Unit {0}) (owners d b layer firsts) (λ o. tt)))
 
+  group_facts : (c j : ℕ) → j < length (group c) → Fact c (1 + j) (get_or (map (λ (o : Owner). get_or b.supervoxels o.least 0) (group c)) j 0)
+  group_facts c j l =
+      subst (λ vs. Fact c (1 + j) (get_or vs j 0)) (sym (leaves_are c)) (fact c j (subst (λ n. j < n) (sym (length-map (group c) (λ (o : Owner). get_or b.supervoxels o.least 0)) ∙ ap length (leaves_are c)) l))
+
   piece_told : (c : ℕ) → map (told b) (up_from 1 (group c)) ≡ map told_node (map (new_node d b (ingested d b now) 0 layer) (news c))
   piece_told c =
-      tell c 1 (group c) (group_in c) (λ j l. subst (λ vs. Fact c (1 + j) (get_or vs j 0)) (sym (leaves_are c)) (fact c j (subst (λ n. j < n) (sym (length-map (group c) (λ (o : Owner). get_or b.supervoxels o.least 0)) ∙ ap length (leaves_are c)) l)))
+      tell c 1 (group c) (group_in c) (group_facts c)
       ∙ (ap (map (λ v. told_node (new_node d b (ingested d b now) 0 layer v))) (leaves_are c) ∙ sym (map_twice told_node (new_node d b (ingested d b now) 0 layer) (news c)))
 
   cs : List ℕ
@@ -197,18 +190,52 @@ module _ (d : Dataset) (b : Base) (valid : IsDataset d) (base : IsBase d b) (now
   unfolding cs layer_chunks
   known_chunk v h = ascending_has (map (chunk d layer) b.supervoxels) (chunk d layer v) (map_has (chunk d layer) b.supervoxels v h)
 
-  -- what holds of the chunk of each supervoxel holds of each node's
-  each_owner : (P : ℕ → Type 0) → ((v : ℕ) → has b.supervoxels v ≡ true → P (chunk d layer v)) → AllByRecursion (λ (o : Owner). P o.chunk) (owners d b layer firsts)
+  -- what holds of each least leaf holds of each node
+  each_owner : (P : Owner → Type 0) → ((i : ℕ) → IsOwn b firsts i → P (owner d b layer i)) → AllByRecursion P (owners d b layer firsts)
   unfolding owners
   each_owner P f =
-      all_map (owner d b layer) (λ (o : Owner). P o.chunk) (filter (λ i. eqb (get_or firsts i 0) i) (range_with_len 0 (length b.supervoxels)))
-      (all_more (λ i. (has (range_with_len 0 (length b.supervoxels)) i ≡ true) × (eqb (get_or firsts i 0) i ≡ true)) (λ i. P (chunk d layer (get_or b.supervoxels i 0))) (filter (λ i. eqb (get_or firsts i 0) i) (range_with_len 0 (length b.supervoxels)))
-      (λ i p. f (get_or b.supervoxels i 0) (get_has b.supervoxels i (let l = range_in 0 (length b.supervoxels) i p.0 in omega arith)))
+      all_map (owner d b layer) P (filter (λ i. eqb (get_or firsts i 0) i) (range_with_len 0 (length b.supervoxels)))
+      (all_more (λ i. (has (range_with_len 0 (length b.supervoxels)) i ≡ true) × (eqb (get_or firsts i 0) i ≡ true)) (λ i. P (owner d b layer i)) (filter (λ i. eqb (get_or firsts i 0) i) (range_with_len 0 (length b.supervoxels)))
+      (λ i p. f i (let l = range_in 0 (length b.supervoxels) i p.0 in omega arith, eqb-true _ _ p.1))
       (all_filter (λ i. eqb (get_or firsts i 0) i) (λ i. has (range_with_len 0 (length b.supervoxels)) i ≡ true) (range_with_len 0 (length b.supervoxels)) (all_has_self (range_with_len 0 (length b.supervoxels)))))
 
+  group_own : (c : ℕ) → AllByRecursion (λ (o : Owner). IsOwn b firsts o.least) (group c)
+  unfolding group
+  group_own c =
+      all_more (λ (o : Owner). IsOwn b firsts o.least × (eqb o.chunk c ≡ true)) (λ o. IsOwn b firsts o.least) (group c) (λ o p. p.0)
+      (all_filter (λ (o : Owner). eqb o.chunk c) (λ o. IsOwn b firsts o.least) (owners d b layer firsts) (each_owner (λ (o : Owner). IsOwn b firsts o.least) (λ i p. p)))
+
+  tell_nodes : (c k : ℕ) (os : List Owner) → In c os → AllByRecursion (λ (o : Owner). IsOwn b firsts o.least) os
+      → ((j : ℕ) → j < length os → Fact c (k + j) (get_or (map (λ (o : Owner). get_or b.supervoxels o.least 0) os) j 0))
+      → map (node_of b firsts) (up_from k os) ≡ map (new_node d b (ingested d b now) 0 layer) (map (λ (o : Owner). get_or b.supervoxels o.least 0) os)
+  unfolding up_from new_node node
+  tell_nodes c k [] i own f = refl
+  tell_nodes c k (o ∷ os) i own f =
+      let v : ℕ = get_or b.supervoxels o.least 0 in
+      let p = f 0 (omega arith) in
+      let ch : o.chunk ≡ chunk d layer v = i.0 ∙ sym p.0 in
+      let lb : label d b (ingested d b now) layer v ≡ k + 0 = p.1 in
+      let id : o.chunk + k ≡ chunk d layer v + label d b (ingested d b now) layer v = omega (arith, ch, lb) in
+      let lv : leaves_at b firsts o.least ≡ component d b (ingested d b now) layer v =
+      sym (leaves_stand d b valid base now layer two firsts are o.least own.0.0 ∙ ap (leaves_at b firsts) own.0.1) in
+      let one : node_of b firsts (record { id = o.chunk + k; chunk = o.chunk; least = o.least }) ≡ new_node d b (ingested d b now) 0 layer v =
+      λ x. record { id = id x; chunk = ch x; leaves = lv x; made = 0 } in
+      ap (λ y. y ∷ map (node_of b firsts) (up_from (k + 1) os)) one
+      ∙ ap (λ ys. new_node d b (ingested d b now) 0 layer v ∷ ys) (tell_nodes c (k + 1) os i.1 own.1 (λ j l.
+      let e : k + suc j ≡ k + 1 + j = omega arith in
+      subst (λ n. Fact c n (get_or (map (λ (o : Owner). get_or b.supervoxels o.least 0) os) j 0)) e (f (suc j) (omega arith))))
+
+  piece_nodes : (c : ℕ) → map (node_of b firsts) (up_from 1 (group c)) ≡ map (new_node d b (ingested d b now) 0 layer) (news c)
+  piece_nodes c =
+      tell_nodes c 1 (group c) (group_in c) (group_own c) (group_facts c)
+      ∙ ap (map (new_node d b (ingested d b now) 0 layer)) (leaves_are c)
+
   module _ (ks : List Owner) (by : AreByChunk (owners d b layer firsts) ks) where
+    all_keys : (P : Owner → Type 0) → ((i : ℕ) → IsOwn b firsts i → P (owner d b layer i)) → All P ks
+    all_keys P f = All-permutation P (owners d b layer firsts) ks by.moved (All-from_recursion P (owners d b layer firsts) (each_owner P f))
+
     each_key : (P : ℕ → Type 0) → ((v : ℕ) → has b.supervoxels v ≡ true → P (chunk d layer v)) → All (λ (o : Owner). P o.chunk) ks
-    each_key P f = All-permutation (λ (o : Owner). P o.chunk) (owners d b layer firsts) ks by.moved (All-from_recursion (λ (o : Owner). P o.chunk) (owners d b layer firsts) (each_owner P f))
+    each_key P f = all_keys (λ (o : Owner). P o.chunk) (λ i p. f (get_or b.supervoxels i 0) (get_has b.supervoxels i p.0))
 
     pub small_keys : All (λ (o : Owner). o.chunk < 2 ^ 62) ks
     small_keys =
@@ -241,6 +268,28 @@ module _ (d : Dataset) (b : Base) (valid : IsDataset d) (base : IsBase d b) (now
         ∙ (flat_same (λ c. map (told b) (up_from 1 (group c))) (λ c. map told_node (map (new_node d b (ingested d b now) 0 layer) (news c))) cs
         (all_each (λ c. map (told b) (up_from 1 (group c)) ≡ map told_node (map (new_node d b (ingested d b now) 0 layer) (news c))) cs piece_told)
         ∙ sym (map_flat told_node (λ c. map (new_node d b (ingested d b now) 0 layer) (news c)) cs))))
+
+    pub nodes_are : map (node_of b firsts) (numbered 0 0 ks) ≡ layer_nodes d b (ingested d b now) 0 layer
+    unfolding layer_nodes cs news
+    nodes_are =
+        ap (λ os. map (node_of b firsts) (numbered 0 0 os)) keys_are
+        ∙ (ap (map (node_of b firsts)) (num_groups group cs cs_differ all_in 0 0 cs_some)
+        ∙ (map_flat (node_of b firsts) (λ c. up_from 1 (group c)) cs
+        ∙ flat_same (λ c. map (node_of b firsts) (up_from 1 (group c))) (λ c. map (new_node d b (ingested d b now) 0 layer) (news c)) cs
+        (all_each (λ c. map (node_of b firsts) (up_from 1 (group c)) ≡ map (new_node d b (ingested d b now) 0 layer) (news c)) cs piece_nodes)))
+
+    pub nodes_own : All (λ (m : Made). IsOwn b firsts m.least) (numbered 0 0 ks)
+    nodes_own =
+        All-from_recursion (λ (m : Made). IsOwn b firsts m.least) (numbered 0 0 ks)
+        (numbered_all (IsOwn b firsts) 0 0 ks (recursion_from_All (λ (o : Owner). IsOwn b firsts o.least) ks (all_keys (λ (o : Owner). IsOwn b firsts o.least) (λ i p. p))))
+
+    pub nodes_each : (i : ℕ) → i < length b.supervoxels → has (map (λ (m : Made). m.least) (numbered 0 0 ks)) (get_or firsts i 0) ≡ true
+    unfolding owners
+    nodes_each i l =
+        let j : ℕ = get_or firsts i 0 in
+        let t : ℕ → Bool = λ k. eqb (get_or firsts k 0) k in
+        let there = filter_has t (range_with_len 0 (length b.supervoxels)) j (has_below (length b.supervoxels) j (are.small i l)) (eq-eqb _ _ (leads_to_itself d b valid base now layer two firsts are i l)) in
+        numbered_has j 0 0 ks (sym (list_any-IsPermutation (λ (o : Owner). eqb o.least j) (owners d b layer firsts) ks by.moved) ∙ owners_has d b layer j (filter t (range_with_len 0 (length b.supervoxels))) there)
 
     used_is : (c : ℕ) → length (group c) ≡ used d b (ingested d b now) layer c
     unfolding used news

@@ -1,18 +1,24 @@
 -- The layers of a base's octree as they are built.
-use Rattle.std.specs.Prelude.{◌≡◌, ℕ, ◌+◌, ◌≤◌, ◌<◌, List, [], ◌∷◌, map, Some, None}
+use Rattle.std.specs.Prelude.{◌≡◌, ℕ, ◌+◌, ◌≤◌, ◌<◌, List, [], ◌∷◌, length, map, Some, None, IsTrue}
+use Rattle.std.specs.List.{All}
+use Rattle.graph_model.specs.Lists.{has}
 use Rattle.op_model.specs.declared.Dataset.{Dataset}
 use Rattle.op_model.specs.declared.Base.{Base}
 use Rattle.op_model.specs.declared.Entry.{Entry}
 use Rattle.op_model.specs.Chunks.{top}
 use Rattle.record_rows.specs.LogRows.{layer_nodes}
-use Rattle.layer_laws.specs.Building.{AreLeastLeaves}
+use Rattle.layer_laws.specs.Building.{AreLeastLeaves, at}
 use Rattle.hierarchy_build.specs.declared.layers.Layer.{Layer}
-use Rattle.hierarchy_build.specs.Numbers.{told, told_node, spent_in}
+use Rattle.hierarchy_build.specs.Numbers.{IsOwn, told, told_node, node_of, spent_in}
 
--- the layer has the place of the least leaf for each supervoxel, and its nodes in the order of their records
+-- The layer has the place of the least leaf for each supervoxel, and its nodes in the order of their records: told by their least leaves, and as they stand in the records.
+-- The places that lead to a node's least leaf are those of its leaves, and each place leads to that of some node.
 pub record IsLayer (d : Dataset) (b : Base) (log : List Entry) (layer : ℕ) (l : Layer) : Type 0 where
   pub firsts : AreLeastLeaves d b log layer l.firsts.items
   pub made : map (told b) l.made.items ≡ map told_node (layer_nodes d b log 0 layer)
+  pub nodes : map (node_of b l.firsts.items) l.made.items ≡ layer_nodes d b log 0 layer
+  pub least : All (λ m. IsOwn b l.firsts.items m.least) l.made.items
+  pub each : (i : ℕ) → i < length b.supervoxels → IsTrue (has (map (λ m. m.least) l.made.items) (at l.firsts.items i))
 
 -- these are the layers from this one on
 abbrev pub AreLayers : Dataset → Base → List Entry → ℕ → List Layer → Type 0

@@ -58,6 +58,18 @@ told b m = (m.id, m.chunk, at b.supervoxels m.least)
 abbrev pub told_node : Node → ℕ × ℕ × ℕ
 told_node n = (n.id, n.chunk, head_or 0 n.leaves)
 
+-- the supervoxels at the places that lead to this one
+abbrev pub leaves_at : Base → List ℕ → ℕ → List ℕ
+leaves_at b firsts i = map (at b.supervoxels) (filter (λ j. at firsts j == i) (range_with_len 0 (length b.supervoxels)))
+
+-- a node that the first entry made, as one of the records: its leaves lead to its least leaf
+abbrev pub node_of : Base → List ℕ → Made → Node
+node_of b firsts m = record { id = m.id; chunk = m.chunk; leaves = leaves_at b firsts m.least; made = 0 }
+
+-- the node's least leaf is a supervoxel whose place leads to itself
+abbrev pub IsOwn : Base → List ℕ → ℕ → Type 0
+IsOwn b firsts i = (i < length b.supervoxels) × (at firsts i ≡ i)
+
 -- the first chunk of a layer that has given a number which its ids don't hold
 unfoldable pub spent_in : Dataset → Base → List Entry → ℕ → Option ℕ
 spent_in d b log layer = find (λ c. nat_le (segments d.layout layer) (used d b log layer c)) (layer_chunks d b layer)

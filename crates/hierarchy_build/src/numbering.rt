@@ -1,14 +1,15 @@
 //! The nodes of a layer in the order of their records: by chunks, and in each by least leaves.
 
-ghost use Rattle.std.specs.Prelude.{◌≡◌, ◌<◌, ◌≤◌, ◌^◌, ◌+◌, ◌++◌, ℕ, Some, None, length, map, slice_index_or, IfOk, IfErr, OnOk};
+ghost use Rattle.std.specs.Prelude.{◌≡◌, ◌<◌, ◌≤◌, ◌^◌, ◌+◌, ◌++◌, ℕ, Some, None, IsTrue, length, map, slice_index_or, IfOk, IfErr, OnOk};
 ghost use Rattle.std.specs.List.{All};
+ghost use Rattle.graph_model.specs.Lists.{has};
 ghost use Rattle.node_ids.specs.Ids.{segments};
 ghost use Rattle.op_model.specs.Chunks.{chunk, top};
 ghost use Rattle.op_model.specs.Valid.{IsBase, IsDataset, IsSupervoxel};
 ghost use Rattle.record_rows.specs.LogRows.{layer_nodes};
 ghost use Rattle.plain_hierarchy.specs.Ingest.{ingested};
 ghost use Rattle.layer_laws.specs.Building.{AreLeastLeaves};
-ghost use Rattle.hierarchy_build.specs.Numbers.{AreByChunk, LabelsFitIn, OfSpent, number_behind, numbered, overflow, owner_at, owners, spent_in, told, told_node};
+ghost use Rattle.hierarchy_build.specs.Numbers.{AreByChunk, IsOwn, LabelsFitIn, OfSpent, node_of, number_behind, numbered, overflow, owner_at, owners, spent_in, told, told_node};
 
 use crate::errors::BuildError;
 use crate::lists::ids_of;
@@ -212,6 +213,9 @@ pub fn made_nodes(
     requires size { length base.now.supervoxels < 2 ^ 32 }
     requires firsts { (now : ℕ) → AreLeastLeaves dataset.now base.now (ingested dataset.now base.now now) layer firsts.now }
     ensures made { IfOk result (λ v. (now : ℕ) → map (told base.now) v.items ≡ map told_node (layer_nodes dataset.now base.now (ingested dataset.now base.now now) 0 layer)) }
+    ensures nodes { IfOk result (λ v. (now : ℕ) → map (node_of base.now firsts.now) v.items ≡ layer_nodes dataset.now base.now (ingested dataset.now base.now now) 0 layer) }
+    ensures least { IfOk result (λ v. All (λ m. IsOwn base.now firsts.now m.least) v.items) }
+    ensures each { IfOk result (λ v. (i : ℕ) → i < length base.now.supervoxels → IsTrue (has (map (λ m. m.least) v.items) (slice_index_or firsts.now i 0))) }
     ensures room { OnOk result ((now : ℕ) → spent_in dataset.now base.now (ingested dataset.now base.now now) layer ≡ None) }
     ensures fit { OnOk result ((now : ℕ) → LabelsFitIn dataset.now base.now (ingested dataset.now base.now now) layer) }
     ensures spent { IfErr result (OfSpent (λ at c. (at ≡ layer) × ((now : ℕ) → spent_in dataset.now base.now (ingested dataset.now base.now now) layer ≡ Some c))) }

@@ -1,7 +1,11 @@
-use Rattle.std.proofs.Common.{◌≡◌, ◌<◌, ◌-◌, ℕ, length, sym, ◌∙◌, ap, subst, arith}
+use Rattle.std.proofs.Common.{◌≡◌, ◌<◌, ◌-◌, ℕ, true, length, map, get_or, sym, ◌∙◌, ap, subst, arith}
 use Rattle.plain_hierarchy.specs.Ingest.{ingested}
 use Rattle.layer_laws.specs.Building.{AreLeastLeaves}
-use Rattle.hierarchy_build.specs.Numbers.{OfSpent}
+use Rattle.std.specs.List.{All}
+use Rattle.graph_model.specs.Lists.{has}
+use Rattle.record_rows.specs.LogRows.{layer_nodes}
+use Rattle.hierarchy_build.specs.declared.numbering.Made.{Made}
+use Rattle.hierarchy_build.specs.Numbers.{IsOwn, OfSpent, node_of}
 use Rattle.hierarchy_build.proofs.AllLayers.{edges_within, firsts_within}
 use Rattle.hierarchy_build.proofs.layers.next_layer.Goals as goal
 
@@ -28,4 +32,7 @@ pub returns-in-Ok-made_nodes-clause-is : goal.returns-in-Ok-made_nodes-clause-is
 returns-in-Ok-made_nodes-clause-is c now = record {
   firsts = c.in-Ok.ensures c.args.dataset.now c.args.base.now now c.requires.dataset c.requires.base c.requires.edges (c.requires.below now);
   made = c.in-Ok-made_nodes.ensures.made now;
+  nodes = subst (λ ns. map (node_of c.args.base.now ns) c.in-Ok-made_nodes.made.items ≡ layer_nodes c.args.dataset.now c.args.base.now (ingested c.args.dataset.now c.args.base.now now) 0 c.args.layer) c.deref.ensures.value (c.in-Ok-made_nodes.ensures.nodes now);
+  least = subst (λ ns. All (λ (m : Made). IsOwn c.args.base.now ns m.least) c.in-Ok-made_nodes.made.items) c.deref.ensures.value c.in-Ok-made_nodes.ensures.least;
+  each = λ i l. subst (λ ns. has (map (λ (m : Made). m.least) c.in-Ok-made_nodes.made.items) (get_or ns i 0) ≡ true) c.deref.ensures.value (c.in-Ok-made_nodes.ensures.each i l);
 }

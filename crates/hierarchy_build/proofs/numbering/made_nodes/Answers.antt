@@ -1,8 +1,10 @@
-use Rattle.std.proofs.Common.{◌≡◌, ◌<◌, ◌≤◌, ◌^◌, List, length, map, None, Some, sym, ◌∙◌, ap, subst, refl, arith}
+use Rattle.std.proofs.Common.{◌≡◌, ◌<◌, ◌≤◌, ◌^◌, true, List, length, map, get_or, None, Some, sym, ◌∙◌, ap, subst, refl, arith}
 use Rattle.std.specs.List.{All}
+use Rattle.graph_model.specs.Lists.{has}
 use Rattle.hierarchy_build.specs.declared.numbering.Owner.{Owner}
-use Rattle.hierarchy_build.specs.Numbers.{AreByChunk, OfSpent, numbered, overflow, owners, told, spent_in}
-use Rattle.hierarchy_build.proofs.LayerNodes.{small_keys, few_keys, nodes_told, spent_is, labels_fit}
+use Rattle.hierarchy_build.specs.declared.numbering.Made.{Made}
+use Rattle.hierarchy_build.specs.Numbers.{AreByChunk, IsOwn, OfSpent, node_of, numbered, overflow, owners, told, spent_in}
+use Rattle.hierarchy_build.proofs.LayerNodes.{small_keys, few_keys, nodes_told, nodes_are, nodes_own, nodes_each, spent_is, labels_fit}
 use Rattle.hierarchy_build.proofs.numbering.made_nodes.Goals as goal
 
 pub owners-requires-clause-count : goal.owners-requires-clause-count
@@ -46,6 +48,24 @@ returns-in-Ok-numbered-clause-made c now =
     let by = subst (λ ns. AreByChunk ns c.in-Ok-by_chunk.list.items) c.in-Ok.ensures c.in-Ok-by_chunk.ensures in
     ap (map (told c.args.base.now)) (c.in-Ok-numbered.ensures ∙ ap (numbered 0 0) c.deref-2.ensures.value)
     ∙ nodes_told c.args.dataset.now c.args.base.now c.requires.dataset c.requires.base now c.args.layer c.requires.layer.0 c.requires.layer.1 c.args.firsts.now (c.requires.firsts now) c.in-Ok-by_chunk.list.items by
+
+pub returns-in-Ok-numbered-clause-nodes : goal.returns-in-Ok-numbered-clause-nodes
+returns-in-Ok-numbered-clause-nodes c now =
+    let by = subst (λ ns. AreByChunk ns c.in-Ok-by_chunk.list.items) c.in-Ok.ensures c.in-Ok-by_chunk.ensures in
+    ap (map (node_of c.args.base.now c.args.firsts.now)) (c.in-Ok-numbered.ensures ∙ ap (numbered 0 0) c.deref-2.ensures.value)
+    ∙ nodes_are c.args.dataset.now c.args.base.now c.requires.dataset c.requires.base now c.args.layer c.requires.layer.0 c.requires.layer.1 c.args.firsts.now (c.requires.firsts now) c.in-Ok-by_chunk.list.items by
+
+pub returns-in-Ok-numbered-clause-least : goal.returns-in-Ok-numbered-clause-least
+returns-in-Ok-numbered-clause-least c =
+    let by = subst (λ ns. AreByChunk ns c.in-Ok-by_chunk.list.items) c.in-Ok.ensures c.in-Ok-by_chunk.ensures in
+    subst (λ (ms : List Made). All (λ m. IsOwn c.args.base.now c.args.firsts.now m.least) ms) (sym (c.in-Ok-numbered.ensures ∙ ap (numbered 0 0) c.deref-2.ensures.value))
+    (nodes_own c.args.dataset.now c.args.base.now c.requires.dataset c.requires.base 0 c.args.layer c.requires.layer.0 c.requires.layer.1 c.args.firsts.now (c.requires.firsts 0) c.in-Ok-by_chunk.list.items by)
+
+pub returns-in-Ok-numbered-clause-each : goal.returns-in-Ok-numbered-clause-each
+returns-in-Ok-numbered-clause-each c i l =
+    let by = subst (λ ns. AreByChunk ns c.in-Ok-by_chunk.list.items) c.in-Ok.ensures c.in-Ok-by_chunk.ensures in
+    subst (λ (ms : List Made). has (map (λ m. m.least) ms) (get_or c.args.firsts.now i 0) ≡ true) (sym (c.in-Ok-numbered.ensures ∙ ap (numbered 0 0) c.deref-2.ensures.value))
+    (nodes_each c.args.dataset.now c.args.base.now c.requires.dataset c.requires.base 0 c.args.layer c.requires.layer.0 c.requires.layer.1 c.args.firsts.now (c.requires.firsts 0) c.in-Ok-by_chunk.list.items by i l)
 
 pub returns-in-Ok-numbered-clause-room : goal.returns-in-Ok-numbered-clause-room
 returns-in-Ok-numbered-clause-room c now =
