@@ -1,31 +1,30 @@
 -- Layer upon layer.
-use Rattle.std.proofs.Common.{◌≡◌, ℕ, zero, suc, ◌+◌, ◌-◌, ◌<◌, ◌≤◌, ◌^◌, Bool, true, false, List, [], ◌∷◌, ◌++◌, length, map, get_or, Option, Some, None, refl, sym, ◌∙◌, ap, subst, arith}
-use Rattle.std.specs.List.{AllByRecursion, All, range_with_len, slice_get}
+use Rattle.std.proofs.Common.{◌≡◌, ℕ, zero, suc, ◌+◌, ◌-◌, ◌<◌, ◌≤◌, Bool, true, false, List, [], ◌∷◌, ◌++◌, length, map, Option, Some, None, refl, sym, ◌∙◌, ap, subst, arith}
+use Rattle.std.specs.List.{All, flat_map, range_with_len, slice_get}
 use Rattle.std.proofs.lemmas.Bool.{false≢true}
 use Rattle.std.proofs.lemmas.Option.{same_Some}
 use Rattle.std.proofs.lemmas.List.Elements.{All-from_recursion}
 use Rattle.std.proofs.lemmas.List.Sorted.{All-permutation}
 use Rattle.op_model.specs.declared.Dataset.{Dataset}
 use Rattle.op_model.specs.declared.Base.{Base}
-use Rattle.op_model.specs.declared.Edge.{Edge}
 use Rattle.op_model.specs.declared.Entry.{Entry}
-use Rattle.op_model.specs.Chunks.{top, layers}
+use Rattle.op_model.specs.Chunks.{top, layers, layers_from}
 use Rattle.op_model.specs.Legal.{LabelsFit}
 use Rattle.op_model.specs.Valid.{IsDataset, IsBase, IsEdge}
 use Rattle.graph_model.proofs.ListLemmas.{any_default}
 use Rattle.record_rows.proofs.DifferLemmas.{all_map, all_more}
 use Rattle.record_rows.proofs.OnceLemmas.{layers_from_differ}
+use Rattle.record_rows.specs.LogRows.{layer_nodes, new_nodes}
 use Rattle.layer_laws.specs.Building.{AreLeastLeaves}
 use Rattle.layer_laws.proofs.BuildLemmas.{first_leaves}
-use Rattle.plain_hierarchy.specs.Ingest.{ingested}
 use Rattle.hierarchy_build.specs.declared.levels.PlacedEdge.{PlacedEdge}
 use Rattle.hierarchy_build.specs.declared.layers.Layer.{Layer}
 use Rattle.hierarchy_build.specs.declared.errors.BuildError.{BuildError}
 use Rattle.hierarchy_build.specs.declared.errors.BuildError.TheVariants.{IdsSpent, NoMemory}
 use Rattle.hierarchy_build.specs.Places.{placed}
 use Rattle.hierarchy_build.specs.Pairs.{AreEdges}
-use Rattle.hierarchy_build.specs.Numbers.{OfSpent, LabelsFitIn, spent_in}
-use Rattle.hierarchy_build.specs.Layers.{IsLayer, AreLayers, IsFirstSpent, last_firsts}
+use Rattle.hierarchy_build.specs.Numbers.{OfSpent, LabelsFitIn}
+use Rattle.hierarchy_build.specs.Layers.{IsLayer, AreLayers, all_nodes, last_firsts}
 use Rattle.hierarchy_build.proofs.Placing.{place_at}
 
 pub of_spent : (P Q : ℕ → ℕ → Type 0) (e : BuildError) → ((l c : ℕ) → P l c → Q l c) → OfSpent P e → OfSpent Q e
@@ -94,6 +93,15 @@ module _ (d : Dataset) (b : Base) (log : List Entry) where
   layer_added ls new layer l c a is e =
       subst (λ ns. AreLayers d b log 2 ns) (sym e)
       (more_layers ls 2 l a (subst (λ n. IsLayer d b log n l) (let s : layer ≡ 2 + length ls = omega (arith, c) in s) is))
+
+  nodes_from : (ls : List Layer) (k : ℕ) → AreLayers d b log k ls → all_nodes b ls ≡ flat_map (layer_nodes d b log 0) (layers_from k (length ls))
+  unfolding layers_from
+  nodes_from [] k a = refl
+  nodes_from (l ∷ ls) k a = ap (λ ns. ns ++ all_nodes b ls) a.0.nodes ∙ ap (λ ns. layer_nodes d b log 0 k ++ ns) (nodes_from ls (k + 1) a.1)
+
+  pub nodes_all : (ls : List Layer) → length ls ≡ top d - 1 → AreLayers d b log 2 ls → all_nodes b ls ≡ new_nodes d b log 0
+  unfolding new_nodes layers
+  nodes_all ls c a = nodes_from ls 2 a ∙ ap (λ n. flat_map (layer_nodes d b log 0) (layers_from 2 n)) c
 
   pub last_below : IsDataset d → IsBase d b → (ls : List Layer) (layer : ℕ) (start : List ℕ) → length ls + 2 ≡ layer → AreLayers d b log 2 ls → start ≡ range_with_len 0 (length b.supervoxels)
       → AreLeastLeaves d b log (layer - 1) (last_firsts start ls)

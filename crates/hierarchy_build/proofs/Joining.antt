@@ -1,17 +1,13 @@
 -- The pairs of a layer's edges are those that the layer joins.
-use Rattle.std.proofs.Common.{◌≡◌, ℕ, ◌+◌, ◌-◌, ◌<◌, ◌≤◌, ◌^◌, Bool, true, false, cond, ◌&&◌, ◌||◌, eqb, List, [], ◌∷◌, length, map, get_or, refl, sym, ◌∙◌, ap, subst, inl, inr, ◌⊎◌, arith, eq-eqb, IsTrue, Result, Ok, Err, IfOk}
+use Rattle.std.proofs.Common.{◌≡◌, ℕ, ◌-◌, ◌<◌, ◌≤◌, ◌^◌, Bool, true, false, cond, ◌&&◌, ◌||◌, eqb, List, [], ◌∷◌, length, map, get_or, refl, sym, ◌∙◌, ap, subst, inl, inr, eq-eqb, IsTrue, Result, Ok, Err, IfOk}
 use Rattle.std.specs.List.{AllByRecursion, All, filter, list_any}
-use Rattle.std.specs.List.Sorted.{IsPermutation}
 use Rattle.std.proofs.lemmas.List.Elements.{All-from_recursion, recursion_from_All}
 use Rattle.std.proofs.lemmas.List.Sorted.{All-permutation, list_any-IsPermutation}
 use Rattle.std.proofs.lemmas.Bool.{eqb-true, and_parts, and_from, or_left, or_right, or_cases}
-use Rattle.node_ids.specs.Ids.{IsLayout}
 use Rattle.op_model.specs.declared.Dataset.{Dataset}
 use Rattle.op_model.specs.declared.Base.{Base}
 use Rattle.op_model.specs.declared.Edge.{Edge}
-use Rattle.graph_model.specs.Lists.{has}
 use Rattle.op_model.specs.Edges.{joins, linked}
-use Rattle.op_model.specs.Chunks.{chunk}
 use Rattle.op_model.specs.Labels.{edges}
 use Rattle.op_model.specs.Valid.{IsBase, IsDataset, IsEdge}
 use Rattle.components.specs.Joining.{meet, AreLeastMembers}

@@ -1,7 +1,6 @@
 -- The nodes of a layer in the order of their records are its least leaves by their chunks, with numbers from 1 on.
-use Rattle.std.proofs.Common.{◌≡◌, ℕ, zero, suc, ◌+◌, ◌*◌, ◌<◌, ◌≤◌, ◌^◌, Bool, true, false, cond, ◌&&◌, eqb, leb, List, [], ◌∷◌, ◌++◌, length, map, get_or, Option, Some, None, refl, sym, ◌∙◌, ap, subst, inl, inr, arith, eq-eqb, le-leb}
+use Rattle.std.proofs.Common.{◌≡◌, ℕ, suc, ◌+◌, ◌<◌, ◌≤◌, ◌^◌, Bool, true, false, ◌&&◌, eqb, leb, List, [], ◌∷◌, length, map, get_or, None, refl, sym, ◌∙◌, ap, subst, inl, inr, arith, eq-eqb}
 use Rattle.std.specs.List.{AllByRecursion, All, filter, flat_map, find, list_any, range_with_len}
-use Rattle.std.specs.List.Sorted.{IsPermutation, IsNonDecreasingBy}
 use Rattle.std.proofs.lemmas.List.{length-map}
 use Rattle.std.proofs.lemmas.List.FromFn.{length-range_with_len}
 use Rattle.std.proofs.lemmas.List.Elements.{All-from_recursion, recursion_from_All}
@@ -10,18 +9,17 @@ use Rattle.std.proofs.lemmas.Bool.{eqb-true, leb-false, and_parts, and_from, or_
 use Rattle.node_ids.specs.Ids.{segments, id_of, id_over}
 use Rattle.op_model.specs.declared.Dataset.{Dataset}
 use Rattle.op_model.specs.declared.Base.{Base}
-use Rattle.op_model.specs.declared.Entry.{Entry}
 use Rattle.graph_model.specs.Lists.{has, head_or}
 use Rattle.op_model.specs.Chunks.{chunk, members, top}
 use Rattle.op_model.specs.Labels.{is_empty, is_new, component, least, new_among, used, label, node}
-use Rattle.op_model.specs.Operations.{ascending, first_entry}
-use Rattle.op_model.specs.Valid.{IsDataset, IsBase, IsSupervoxel, IsAscending}
-use Rattle.graph_model.proofs.ListLemmas.{has_cases, has_none, filter_same, filter_has, filter_only, filter_length, head_same, same_bool}
+use Rattle.op_model.specs.Operations.{first_entry}
+use Rattle.op_model.specs.Valid.{IsDataset, IsBase, IsSupervoxel}
+use Rattle.graph_model.proofs.ListLemmas.{filter_same, filter_has, filter_only, filter_length, head_same, same_bool}
 use Rattle.op_model.proofs.LegalLemmas.{all_has, ascending_has, map_has}
 use Rattle.op_model.proofs.CutLemmas.{find_none_at}
 use Rattle.op_model.proofs.LabelLemmas.{members_in, own_component, label_used}
 use Rattle.record_rows.specs.LogRows.{layer_chunks, new_node, layer_nodes}
-use Rattle.record_rows.proofs.DifferLemmas.{Differ, all_map, all_more, all_each, all_both, all_filter}
+use Rattle.record_rows.proofs.DifferLemmas.{Differ, all_map, all_more, all_each, all_filter}
 use Rattle.record_rows.proofs.OnceLemmas.{all_has_self, ascending_lists}
 use Rattle.record_rows.proofs.LinkLemmas.{all_ascending}
 use Rattle.layer_laws.specs.Levels.{AreFirsts}

@@ -1,11 +1,12 @@
 -- The layers of a base's octree as they are built.
 use Rattle.std.specs.Prelude.{◌≡◌, ℕ, ◌+◌, ◌≤◌, ◌<◌, List, [], ◌∷◌, length, map, Some, None, IsTrue}
-use Rattle.std.specs.List.{All}
+use Rattle.std.specs.List.{All, flat_map}
 use Rattle.graph_model.specs.Lists.{has}
 use Rattle.op_model.specs.declared.Dataset.{Dataset}
 use Rattle.op_model.specs.declared.Base.{Base}
 use Rattle.op_model.specs.declared.Entry.{Entry}
 use Rattle.op_model.specs.Chunks.{top}
+use Rattle.record_rows.specs.Rows.{Node}
 use Rattle.record_rows.specs.LogRows.{layer_nodes}
 use Rattle.layer_laws.specs.Building.{AreLeastLeaves, at}
 use Rattle.hierarchy_build.specs.declared.layers.Layer.{Layer}
@@ -24,6 +25,10 @@ pub record IsLayer (d : Dataset) (b : Base) (log : List Entry) (layer : ℕ) (l 
 abbrev pub AreLayers : Dataset → Base → List Entry → ℕ → List Layer → Type 0
 AreLayers d b log layer [] = Unit {0}
 AreLayers d b log layer (l ∷ ls) = IsLayer d b log layer l × AreLayers d b log (layer + 1) ls
+
+-- the nodes of all these layers, as they stand in the records
+abbrev pub all_nodes : Base → List Layer → List Node
+all_nodes b ls = flat_map (λ l. map (node_of b l.firsts.items) l.made.items) ls
 
 -- the least leaves of the last layer, or others where there is none
 unfoldable pub last_firsts : List ℕ → List Layer → List ℕ

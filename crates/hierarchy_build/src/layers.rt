@@ -6,11 +6,12 @@ ghost use Rattle.std.specs.List.Sorted.{IsNonDecreasingBy};
 ghost use Rattle.op_model.specs.Chunks.{top};
 ghost use Rattle.op_model.specs.Legal.{LabelsFit};
 ghost use Rattle.op_model.specs.Valid.{IsBase, IsDataset};
+ghost use Rattle.record_rows.specs.LogRows.{new_nodes};
 ghost use Rattle.plain_hierarchy.specs.Ingest.{ingested};
 ghost use Rattle.layer_laws.specs.Building.{AreLeastLeaves};
 ghost use Rattle.hierarchy_build.specs.Pairs.{AreEdges};
 ghost use Rattle.hierarchy_build.specs.Numbers.{LabelsFitIn, OfSpent, spent_in};
-ghost use Rattle.hierarchy_build.specs.Layers.{AreLayers, IsFirstSpent, IsLayer, last_firsts};
+ghost use Rattle.hierarchy_build.specs.Layers.{all_nodes, AreLayers, IsFirstSpent, IsLayer, last_firsts};
 
 use crate::errors::BuildError;
 use crate::levels::{PlacedEdge, by_level, placed_edges};
@@ -99,6 +100,7 @@ fn layers_over(
     requires start { start.now ≡ range_with_len 0 (length base.now.supervoxels) }
     ensures layers { IfOk result (λ v. (now : ℕ) → AreLayers dataset.now base.now (ingested dataset.now base.now now) 2 v.items) }
     ensures count { IfOk result (λ v. length v.items ≡ top dataset.now - 1) }
+    ensures nodes { IfOk result (λ v. (now : ℕ) → all_nodes base.now v.items ≡ new_nodes dataset.now base.now (ingested dataset.now base.now now) 0) }
     ensures fit { OnOk result ((now : ℕ) → LabelsFit dataset.now base.now (ingested dataset.now base.now now)) }
     ensures spent { IfErr result (OfSpent (λ at c. (now : ℕ) → IsFirstSpent dataset.now base.now (ingested dataset.now base.now now) at c)) }
 {
@@ -133,6 +135,7 @@ pub fn build_layers(alloc: Global, dataset: &Dataset, base: &Base) -> Result<Vec
     requires size { length base.now.supervoxels < 2 ^ 32 }
     ensures layers { IfOk result (λ v. (now : ℕ) → AreLayers dataset.now base.now (ingested dataset.now base.now now) 2 v.items) }
     ensures count { IfOk result (λ v. length v.items ≡ top dataset.now - 1) }
+    ensures nodes { IfOk result (λ v. (now : ℕ) → all_nodes base.now v.items ≡ new_nodes dataset.now base.now (ingested dataset.now base.now now) 0) }
     ensures fit { OnOk result ((now : ℕ) → LabelsFit dataset.now base.now (ingested dataset.now base.now now)) }
     ensures spent { IfErr result (OfSpent (λ at c. (now : ℕ) → IsFirstSpent dataset.now base.now (ingested dataset.now base.now now) at c)) }
 {

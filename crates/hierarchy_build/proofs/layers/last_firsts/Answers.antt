@@ -1,4 +1,4 @@
-use Rattle.std.proofs.Common.{◌≡◌, ◌∙◌, Option, ap, sym}
+use Rattle.std.proofs.Common.{◌∙◌, ap, sym}
 use Rattle.std.specs.Option.{option_copied}
 use Rattle.hierarchy_build.proofs.AllLayers.{last_some, last_none}
 use Rattle.hierarchy_build.proofs.layers.last_firsts.Goals as goal

@@ -1,11 +1,11 @@
-use Rattle.std.proofs.Common.{◌≡◌, ◌<◌, ◌≤◌, ◌+◌, ◌-◌, ℕ, Some, None, [], ◌∷◌, length, length-append, sym, ◌∙◌, ap, subst, inl, inr, arith}
+use Rattle.std.proofs.Common.{◌≡◌, ◌≤◌, ◌-◌, ℕ, Some, None, [], ◌∷◌, length, length-append, sym, ◌∙◌, ap, subst, inl, inr, arith}
 use Rattle.std.proofs.lemmas.Bool.{cases_lt}
 use Rattle.op_model.specs.Chunks.{top}
 use Rattle.plain_hierarchy.specs.Ingest.{ingested}
 use Rattle.layer_laws.specs.Building.{AreLeastLeaves}
 use Rattle.hierarchy_build.specs.Numbers.{OfSpent, LabelsFitIn, spent_in}
 use Rattle.hierarchy_build.specs.Layers.{IsFirstSpent, last_firsts}
-use Rattle.hierarchy_build.proofs.AllLayers.{of_spent, layer_added, last_below, all_fit}
+use Rattle.hierarchy_build.proofs.AllLayers.{of_spent, layer_added, last_below, nodes_all, all_fit}
 use Rattle.hierarchy_build.proofs.layers.layers_over.Goals as goal
 
 pub next_layer-requires-clause-layer : goal.next_layer-requires-clause-layer
@@ -64,6 +64,10 @@ returns-clause-count c =
     let e = c.top_layer-layer-end.ensures.is in
     let l = c.loop-layer.auto.layer-end in
     omega (arith, n, t, e, l)
+
+pub returns-clause-nodes : goal.returns-clause-nodes
+returns-clause-nodes c now =
+    nodes_all c.args.dataset.now c.args.base.now (ingested c.args.dataset.now c.args.base.now now) c.loop-layer.layers.items (returns-clause-count c) (c.loop-layer.invariant.layers now)
 
 pub returns-clause-fit : goal.returns-clause-fit
 unfolding top

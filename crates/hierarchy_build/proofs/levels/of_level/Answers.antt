@@ -1,4 +1,4 @@
-use Rattle.std.proofs.Common.{rules, of_calls, ◌≡◌, true, false, List, ltb, leb, take, drop, ◌∙◌, ap, subst}
+use Rattle.std.proofs.Common.{rules, of_calls, ◌≡◌, true, false, List, ltb, leb, take, ◌∙◌, ap, subst}
 use Rattle.std.proofs.lemmas.Fn.{always_returns_same}
 use Rattle.std.specs.List.Sorted.{IsPartitionedBy, IsPartitionPoint}
 use Rattle.hierarchy_build.specs.declared.levels.PlacedEdge.{PlacedEdge}

@@ -1,4 +1,4 @@
-use Rattle.std.proofs.Common.{◌≡◌, true, sym, ◌∙◌, ap, subst}
+use Rattle.std.proofs.Common.{◌≡◌, true, sym, subst}
 use Rattle.chunk_geometry.specs.declared.Cell.{Cell}
 use Rattle.chunk_geometry.specs.Grids.{in_grid}
 use Rattle.op_model.specs.Valid.{IsSupervoxel}

@@ -1,6 +1,6 @@
-use Rattle.std.proofs.Common.{◌≤◌, ◌<◌, ◌^◌, arith, sym, subst}
+use Rattle.std.proofs.Common.{arith}
 use Rattle.op_model.specs.Chunks.{top}
-use Rattle.plain_hierarchy.proofs.Places.{packs, chunk_small, top_low}
+use Rattle.plain_hierarchy.proofs.Places.{packs}
 use Rattle.hierarchy_build.proofs.numbering.chunk.Goals as goal
 
 pub chunk_at-cell-requires-clause-layer : goal.chunk_at-cell-requires-clause-layer

@@ -1,9 +1,9 @@
-use Rattle.std.proofs.Common.{◌≡◌, ◌<◌, ◌≤◌, ◌^◌, true, List, length, map, get_or, None, Some, sym, ◌∙◌, ap, subst, refl, arith}
+use Rattle.std.proofs.Common.{◌≡◌, ◌<◌, ◌^◌, true, List, length, map, get_or, sym, ◌∙◌, ap, subst, refl, arith}
 use Rattle.std.specs.List.{All}
 use Rattle.graph_model.specs.Lists.{has}
 use Rattle.hierarchy_build.specs.declared.numbering.Owner.{Owner}
 use Rattle.hierarchy_build.specs.declared.numbering.Made.{Made}
-use Rattle.hierarchy_build.specs.Numbers.{AreByChunk, IsOwn, OfSpent, node_of, numbered, overflow, owners, told, spent_in}
+use Rattle.hierarchy_build.specs.Numbers.{AreByChunk, IsOwn, OfSpent, node_of, numbered, overflow, told}
 use Rattle.hierarchy_build.proofs.LayerNodes.{small_keys, few_keys, nodes_told, nodes_are, nodes_own, nodes_each, spent_is, labels_fit}
 use Rattle.hierarchy_build.proofs.numbering.made_nodes.Goals as goal
 

@@ -1,4 +1,4 @@
-use Rattle.std.proofs.Common.{◌≡◌, ◌+◌, ◌≤◌, cond, leb, drop, Some, None, sym, ◌∙◌, ap, arith}
+use Rattle.std.proofs.Common.{◌+◌, cond, drop, Some, sym, ◌∙◌, ap, arith}
 use Rattle.std.proofs.lemmas.Bool.{le-leb, leb-true, false_from_ne_true}
 use Rattle.hierarchy_build.specs.Numbers.{overflow}
 use Rattle.hierarchy_build.proofs.Steps.{over_more, over_end}

@@ -1,4 +1,4 @@
-use Rattle.std.proofs.Common.{◌≡◌, ◌∙◌, ap, sym, map, length, get_or, eqb, arith}
+use Rattle.std.proofs.Common.{◌≡◌, ◌∙◌, ap, map, length, get_or, eqb, arith}
 use Rattle.std.specs.List.{filter, range_with_len}
 use Rattle.hierarchy_build.specs.Numbers.{owner, owners}
 use Rattle.hierarchy_build.proofs.Steps.{owners_more}

@@ -1,6 +1,5 @@
-use Rattle.std.proofs.Common.{◌≡◌, ℕ, ◌+◌, ◌-◌, ◌/◌, ◌<◌, ◌≤◌, length, get_or, sym, ◌∙◌, ap, subst, arith}
+use Rattle.std.proofs.Common.{ℕ, ◌+◌, ◌-◌, ◌/◌, ◌<◌, ◌≤◌, length, get_or, sym, ◌∙◌, ap, subst, arith}
 use Rattle.graph_model.proofs.ListLemmas.{any_default}
-use Rattle.hierarchy_build.specs.Places.{place_of}
 use Rattle.hierarchy_build.proofs.Placing.{place_at, middle_less, middle_more, cmp_less, cmp_more}
 use Rattle.hierarchy_build.proofs.places.place_of.Goals as goal
 

@@ -1,4 +1,4 @@
-use Rattle.std.proofs.Common.{◌≡◌, ◌<◌, List, length, map, sym, ap, subst, nat_eq}
+use Rattle.std.proofs.Common.{◌≡◌, ◌<◌, length, map, sym, subst, nat_eq}
 use Rattle.std.specs.List.{All, filter}
 use Rattle.hierarchy_build.specs.declared.levels.PlacedEdge.{PlacedEdge}
 use Rattle.hierarchy_build.specs.Pairs.{pair_at, pairs_at}

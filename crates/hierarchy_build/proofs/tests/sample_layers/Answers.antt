@@ -1,5 +1,3 @@
-use Rattle.std.proofs.Common.{◌≡◌, ◌<◌, ◌^◌, length, ap, subst, sym, arith}
-use Rattle.op_model.specs.declared.Base.{Base}
 use Rattle.plain_hierarchy.proofs.Samples.{base_of}
 use Rattle.hierarchy_build.proofs.tests.sample_layers.Goals as goal
 
