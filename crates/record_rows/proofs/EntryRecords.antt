@@ -124,10 +124,12 @@ module _ (d : Dataset) (b : Base) where
 
   no_base : AllByRecursion NoEntry (base_rows d b)
   unfolding base_rows entry_told
-  no_base =
-      (refl, all_append NoEntry (map SupervoxelRow b.supervoxels) (map ChunkRow (chunks d b))
-      (all_map SupervoxelRow NoEntry b.supervoxels (all_each _ b.supervoxels (λ x. refl)))
-      (all_map ChunkRow NoEntry (chunks d b) (all_each _ (chunks d b) (λ x. refl))))
+  no_base = (
+    refl,
+    all_append NoEntry (map SupervoxelRow b.supervoxels) (map ChunkRow (chunks d b))
+        (all_map SupervoxelRow NoEntry b.supervoxels (all_each _ b.supervoxels (λ x. refl)))
+        (all_map ChunkRow NoEntry (chunks d b) (all_each _ (chunks d b) (λ x. refl))),
+  )
 
   length-rows : (e : Entry) (log : List Entry) → length (rows_of d b (e ∷ log)) ≡ length (rows_of d b log) + length (front log e) + 1
   unfolding rows_of
@@ -186,11 +188,10 @@ module _ (d : Dataset) (b : Base) where
 
   pub numbers_below : (e : Entry) (log : List Entry) → Legal d b (e ∷ log) → AllByRecursion (λ f. f.number < length (e ∷ log)) (e ∷ log)
   numbers_below e [] legal = (let n = number_told e [] legal in omega arith, tt)
-  numbers_below e (f ∷ log) legal =
-      (
-        (let n = number_told e (f ∷ log) legal in omega arith),
-        all_more (λ g. g.number < length (f ∷ log)) (λ g. g.number < length (e ∷ f ∷ log)) (f ∷ log) (λ g q. omega arith) (numbers_below f log legal.1),
-      )
+  numbers_below e (f ∷ log) legal = (
+    (let n = number_told e (f ∷ log) legal in omega arith),
+    all_more (λ g. g.number < length (f ∷ log)) (λ g. g.number < length (e ∷ f ∷ log)) (f ∷ log) (λ g q. omega arith) (numbers_below f log legal.1),
+  )
 
   no_rows_before : (n : ℕ) (log : List Entry) → AllByRecursion (λ e. eqb (e.number + 1) n ≡ false) log → AllByRecursion (λ r. entry_before n r ≡ false) (rows_of d b log)
   unfolding rows_of entry_before
