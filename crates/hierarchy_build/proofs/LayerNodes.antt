@@ -1,27 +1,29 @@
 -- The nodes of a layer in the order of their records are its least leaves by their chunks, with numbers from 1 on.
-use Rattle.std.proofs.Common.{◌≡◌, ℕ, suc, ◌+◌, ◌<◌, ◌≤◌, ◌^◌, Bool, true, false, ◌&&◌, eqb, leb, List, [], ◌∷◌, length, map, get_or, None, refl, sym, ◌∙◌, ap, subst, inl, inr, arith, eq-eqb}
+use Rattle.std.proofs.Common.{◌≡◌, ℕ, suc, ◌+◌, ◌-◌, ◌*◌, ◌<◌, ◌≤◌, ◌^◌, Bool, true, false, ◌&&◌, eqb, leb, List, [], ◌∷◌, length, map, get_or, None, refl, sym, ◌∙◌, ap, subst, inl, inr, arith, eq-eqb}
 use Rattle.std.specs.List.{AllByRecursion, All, filter, flat_map, find, list_any, range_with_len}
 use Rattle.std.proofs.lemmas.List.{length-map}
 use Rattle.std.proofs.lemmas.List.FromFn.{length-range_with_len}
 use Rattle.std.proofs.lemmas.List.Elements.{All-from_recursion, recursion_from_All}
 use Rattle.std.proofs.lemmas.List.Sorted.{All-permutation, length_permutation, list_any-IsPermutation}
-use Rattle.std.proofs.lemmas.Bool.{eqb-true, leb-false, and_parts, and_from, or_left, or_right, or_cases}
-use Rattle.node_ids.specs.Ids.{segments, id_of, id_over}
+use Rattle.std.proofs.lemmas.Bool.{eqb-true, leb-false, and_parts, and_from, cases_lt, or_left, or_right, or_cases}
+use Rattle.node_ids.specs.Ids.{segments, width, id_of, id_over}
 use Rattle.op_model.specs.declared.Dataset.{Dataset}
 use Rattle.op_model.specs.declared.Base.{Base}
 use Rattle.graph_model.specs.Lists.{has, head_or}
 use Rattle.op_model.specs.Chunks.{chunk, members, top}
 use Rattle.op_model.specs.Labels.{is_empty, is_new, component, least, new_among, used, label, node}
 use Rattle.op_model.specs.Operations.{first_entry}
-use Rattle.op_model.specs.Valid.{IsDataset, IsBase, IsSupervoxel}
+use Rattle.op_model.specs.Valid.{IsDataset, IsBase, IsSupervoxel, IsAscending}
 use Rattle.graph_model.proofs.ListLemmas.{filter_same, filter_has, filter_only, filter_length, head_same, same_bool}
 use Rattle.op_model.proofs.LegalLemmas.{all_has, ascending_has, map_has}
 use Rattle.op_model.proofs.CutLemmas.{find_none_at}
 use Rattle.op_model.proofs.LabelLemmas.{members_in, own_component, label_used}
 use Rattle.record_rows.specs.LogRows.{layer_chunks, new_node, layer_nodes}
-use Rattle.record_rows.proofs.DifferLemmas.{Differ, all_map, all_more, all_each, all_filter}
-use Rattle.record_rows.proofs.OnceLemmas.{all_has_self, ascending_lists}
+use Rattle.record_rows.proofs.DifferLemmas.{Differ, all_map, all_more, all_each, all_both, all_flat, all_filter, differ_flat}
+use Rattle.record_rows.proofs.OnceLemmas.{all_has_self, all_pairs, ascending_lists}
 use Rattle.record_rows.proofs.LinkLemmas.{all_ascending}
+use Rattle.record_rows.proofs.LayerIds.{id_parts}
+use Rattle.std.proofs.lemmas.Nat.{pow_pos}
 use Rattle.layer_laws.specs.Levels.{AreFirsts}
 use Rattle.layer_laws.specs.Building.{AreLeastLeaves}
 use Rattle.layer_laws.proofs.OrderLemmas.{get_has, filter_ascending, members_ascending, label_at}
@@ -49,6 +51,40 @@ numbered_has j last l (o ∷ os) h = elim (or_cases (eqb o.least j) _ h) [ inl a
 owners_has : (d : Dataset) (b : Base) (layer j : ℕ) (is : List ℕ) → has is j ≡ true → list_any (λ (o : Owner). eqb o.least j) (map (owner d b layer) is) ≡ true
 owners_has d b layer j [] h = h
 owners_has d b layer j (i ∷ is) h = elim (or_cases (eqb i j) _ h) [ inl a ↦ or_left _ _ a | inr c ↦ or_right _ _ (owners_has d b layer j is c) ]
+
+-- ids of numbers from k on are above that of a lesser number, and below those that end behind them
+up_above : (c k from : ℕ) (os : List Owner) → In c os → k < from → AllByRecursion (λ (m : Made). c + k < m.id) (up_from from os)
+unfolding up_from
+up_above c k from [] i l = tt
+up_above c k from (o ∷ os) i l = (let e : o.chunk ≡ c = i.0 in omega (arith, e, l), up_above c k (from + 1) os i.1 (omega arith))
+
+up_below : (c from end : ℕ) (os : List Owner) → In c os → from + length os ≤ end → AllByRecursion (λ (m : Made). m.id < c + end) (up_from from os)
+unfolding up_from
+up_below c from end [] i l = tt
+up_below c from end (o ∷ os) i l = (let e : o.chunk ≡ c = i.0 in omega (arith, e, l), up_below c (from + 1) end os i.1 (omega arith))
+
+up_differ : (c from : ℕ) (os : List Owner) → In c os → Differ (λ (m n : Made). m.id < n.id) (up_from from os)
+unfolding up_from
+up_differ c from [] i = tt
+up_differ c from (o ∷ os) i =
+    (all_more (λ (m : Made). c + from < m.id) (λ (m : Made). o.chunk + from < m.id) (up_from (from + 1) os) (λ m l. let e : o.chunk ≡ c = i.0 in omega arith) (up_above c from (from + 1) os i.1 (omega arith)), up_differ c (from + 1) os i.1)
+
+pub ids_rise : (ms : List Made) → Differ (λ (m n : Made). m.id < n.id) ms → IsAscending (map (λ (m : Made). m.id) ms)
+ids_rise [] a = tt
+ids_rise (m ∷ []) a = tt
+ids_rise (m ∷ n ∷ ms) a = (a.0.0, ids_rise (n ∷ ms) a.1)
+
+-- the ids of a chunk's nodes end below the next chunk
+chunks_apart : (d : Dataset) → IsDataset d → (layer u v : ℕ) → layer < 2 ^ 8 → chunk d layer u < chunk d layer v → chunk d layer u + segments d.layout layer ≤ chunk d layer v
+chunks_apart d valid layer u v low less = elim (cases_lt (chunk d layer v) (chunk d layer u + segments d.layout layer)) [
+  | inl within ↦
+      let n : ℕ = chunk d layer v - chunk d layer u in
+      let e : chunk d layer v + 0 ≡ chunk d layer u + n = omega arith in
+      let r = id_parts d valid.layout layer layer v u 0 n low low (pow_pos (56 - 3 * width d.layout layer)) (omega arith) e in
+      let z : 0 ≡ n = r.2 in
+      absurd (omega arith)
+  | inr behind ↦ behind
+]
 
 module _ (d : Dataset) (b : Base) (valid : IsDataset d) (base : IsBase d b) (now layer : ℕ) (two : 2 ≤ layer) (high : layer ≤ top d)
     (firsts : List ℕ) (are : AreLeastLeaves d b (ingested d b now) layer firsts) where
@@ -161,6 +197,21 @@ module _ (d : Dataset) (b : Base) (valid : IsDataset d) (base : IsBase d b) (now
   group_facts : (c j : ℕ) → j < length (group c) → Fact c (1 + j) (get_or (map (λ (o : Owner). get_or b.supervoxels o.least 0) (group c)) j 0)
   group_facts c j l =
       subst (λ vs. Fact c (1 + j) (get_or vs j 0)) (sym (leaves_are c)) (fact c j (subst (λ n. j < n) (sym (length-map (group c) (λ (o : Owner). get_or b.supervoxels o.least 0)) ∙ ap length (leaves_are c)) l))
+
+  tell_ids : (c k : ℕ) (os : List Owner) → In c os → ((j : ℕ) → j < length os → Fact c (k + j) (get_or (map (λ (o : Owner). get_or b.supervoxels o.least 0) os) j 0))
+      → AllByRecursion (λ (m : Made). m.id ≡ node d b (ingested d b now) layer (get_or b.supervoxels m.least 0)) (up_from k os)
+  unfolding up_from node
+  tell_ids c k [] i f = tt
+  tell_ids c k (o ∷ os) i f =
+      let v : ℕ = get_or b.supervoxels o.least 0 in
+      let p = f 0 (omega arith) in
+      let ch : o.chunk ≡ chunk d layer v = i.0 ∙ sym p.0 in
+      let lb : label d b (ingested d b now) layer v ≡ k + 0 = p.1 in (
+        omega (arith, ch, lb),
+        tell_ids c (k + 1) os i.1 (λ j l.
+        let e : k + suc j ≡ k + 1 + j = omega arith in
+        subst (λ n. Fact c n (get_or (map (λ (o : Owner). get_or b.supervoxels o.least 0) os) j 0)) e (f (suc j) (omega arith))),
+      )
 
   piece_told : (c : ℕ) → map (told b) (up_from 1 (group c)) ≡ map told_node (map (new_node d b (ingested d b now) 0 layer) (news c))
   piece_told c =
@@ -276,6 +327,53 @@ module _ (d : Dataset) (b : Base) (valid : IsDataset d) (base : IsBase d b) (now
         ∙ flat_same (λ c. map (node_of b firsts) (up_from 1 (group c))) (λ c. map (new_node d b (ingested d b now) 0 layer) (news c)) cs
         (all_each (λ c. map (node_of b firsts) (up_from 1 (group c)) ≡ map (new_node d b (ingested d b now) 0 layer) (news c)) cs piece_nodes)))
 
+    used_is : (c : ℕ) → length (group c) ≡ used d b (ingested d b now) layer c
+    unfolding used news
+    used_is c = sym (length-map (group c) (λ (o : Owner). get_or b.supervoxels o.least 0)) ∙ (ap length (leaves_are c) ∙ (let e : length (news c) ≡ 0 + length (news c) = omega arith in e))
+
+    numbers_are : numbered 0 0 ks ≡ flat_map (λ c. up_from 1 (group c)) cs
+    numbers_are = ap (numbered 0 0) keys_are ∙ num_groups group cs cs_differ all_in 0 0 cs_some
+
+    pub nodes_ids : All (λ (m : Made). m.id ≡ node d b (ingested d b now) layer (get_or b.supervoxels m.least 0)) (numbered 0 0 ks)
+    nodes_ids =
+        All-from_recursion (λ (m : Made). m.id ≡ node d b (ingested d b now) layer (get_or b.supervoxels m.least 0)) (numbered 0 0 ks)
+        (subst (λ ms. AllByRecursion (λ (m : Made). m.id ≡ node d b (ingested d b now) layer (get_or b.supervoxels m.least 0)) ms) (sym numbers_are)
+        (all_flat (λ c. up_from 1 (group c)) (λ (m : Made). m.id ≡ node d b (ingested d b now) layer (get_or b.supervoxels m.least 0)) cs
+        (all_each (λ c. AllByRecursion (λ (m : Made). m.id ≡ node d b (ingested d b now) layer (get_or b.supervoxels m.least 0)) (up_from 1 (group c))) cs
+        (λ c. tell_ids c 1 (group c) (group_in c) (group_facts c)))))
+
+    -- a chunk of a supervoxel, with fewer nodes than there are segments
+    abbrev Roomy : ℕ → Type 0
+    Roomy c = (v : ℕ) × (chunk d layer v ≡ c) × (length (group c) < segments d.layout layer)
+
+    pub ids_ascend : spent_in d b (ingested d b now) layer ≡ None → Differ (λ (m n : Made). m.id < n.id) (numbered 0 0 ks)
+    unfolding spent_in cs layer_chunks
+    ids_ascend none =
+        subst (λ ms. Differ (λ (m n : Made). m.id < n.id) ms) (sym numbers_are)
+        (differ_flat (λ c. up_from 1 (group c)) Roomy (λ x y. x < y) (λ (m n : Made). m.id < n.id) cs
+        (λ c p. up_differ c 1 (group c) (group_in c))
+        (λ c e p q less.
+        let far : c + segments d.layout layer ≤ e =
+        subst (λ x. x + segments d.layout layer ≤ e) p.1 (subst (λ y. chunk d layer p.0 + segments d.layout layer ≤ y) q.1
+        (chunks_apart d valid layer p.0 q.0 (let t = top_low d in omega arith) (let s = p.1 in let r = q.1 in omega arith))) in
+        all_pairs (λ (m : Made). m.id < c + segments d.layout layer) (λ (n : Made). e + 0 < n.id) (λ m n. m.id < n.id) (up_from 1 (group c)) (up_from 1 (group e)) (λ m n x y. omega arith)
+        (up_below c 1 (segments d.layout layer) (group c) (group_in c) (let r = p.2 in omega arith)) (up_above e 0 1 (group e) (group_in e) (omega arith)))
+        roomy cs_differ)
+      where
+        known : AllByRecursion (λ c. (v : ℕ) × (chunk d layer v ≡ c)) (layer_chunks d b layer)
+        known =
+            all_ascending (λ c. (v : ℕ) × (chunk d layer v ≡ c)) (map (chunk d layer) b.supervoxels)
+            (all_map (chunk d layer) (λ c. (v : ℕ) × (chunk d layer v ≡ c)) b.supervoxels (all_each (λ u. (v : ℕ) × (chunk d layer v ≡ chunk d layer u)) b.supervoxels (λ u. (u, refl))))
+
+        roomy : AllByRecursion Roomy cs
+        roomy =
+            all_more (λ c. ((v : ℕ) × (chunk d layer v ≡ c)) × (has cs c ≡ true)) Roomy cs
+            (λ c p.
+            let l = leb-false _ _ (find_none_at (λ c. leb (segments d.layout layer) (used d b (ingested d b now) layer c)) cs c none p.1) in
+            let u = used_is c in
+            (p.0.0, p.0.1, omega (arith, l, u)))
+            (all_both (λ c. (v : ℕ) × (chunk d layer v ≡ c)) (λ c. has cs c ≡ true) cs known (all_has_self cs))
+
     pub nodes_own : All (λ (m : Made). IsOwn b firsts m.least) (numbered 0 0 ks)
     nodes_own =
         All-from_recursion (λ (m : Made). IsOwn b firsts m.least) (numbered 0 0 ks)
@@ -288,10 +386,6 @@ module _ (d : Dataset) (b : Base) (valid : IsDataset d) (base : IsBase d b) (now
         let t : ℕ → Bool = λ k. eqb (get_or firsts k 0) k in
         let there = filter_has t (range_with_len 0 (length b.supervoxels)) j (has_below (length b.supervoxels) j (are.small i l)) (eq-eqb _ _ (leads_to_itself d b valid base now layer two firsts are i l)) in
         numbered_has j 0 0 ks (sym (list_any-IsPermutation (λ (o : Owner). eqb o.least j) (owners d b layer firsts) ks by.moved) ∙ owners_has d b layer j (filter t (range_with_len 0 (length b.supervoxels))) there)
-
-    used_is : (c : ℕ) → length (group c) ≡ used d b (ingested d b now) layer c
-    unfolding used news
-    used_is c = sym (length-map (group c) (λ (o : Owner). get_or b.supervoxels o.least 0)) ∙ (ap length (leaves_are c) ∙ (let e : length (news c) ≡ 0 + length (news c) = omega arith in e))
 
     pub spent_is : (limit : ℕ) → 1 ≤ limit → limit ≡ segments d.layout layer → overflow limit 0 0 ks ≡ spent_in d b (ingested d b now) layer
     unfolding spent_in cs

@@ -6,6 +6,8 @@ use Rattle.op_model.specs.declared.Dataset.{Dataset}
 use Rattle.op_model.specs.declared.Base.{Base}
 use Rattle.op_model.specs.declared.Entry.{Entry}
 use Rattle.op_model.specs.Chunks.{top}
+use Rattle.op_model.specs.Labels.{node}
+use Rattle.op_model.specs.Valid.{IsAscending}
 use Rattle.record_rows.specs.Rows.{Node}
 use Rattle.record_rows.specs.LogRows.{layer_nodes}
 use Rattle.layer_laws.specs.Building.{AreLeastLeaves, at}
@@ -18,6 +20,8 @@ pub record IsLayer (d : Dataset) (b : Base) (log : List Entry) (layer : ℕ) (l 
   pub firsts : AreLeastLeaves d b log layer l.firsts.items
   pub made : map (told b) l.made.items ≡ map told_node (layer_nodes d b log 0 layer)
   pub nodes : map (node_of b l.firsts.items) l.made.items ≡ layer_nodes d b log 0 layer
+  pub ids : All (λ m. m.id ≡ node d b log layer (at b.supervoxels m.least)) l.made.items
+  pub ascending : IsAscending (map (λ m. m.id) l.made.items)
   pub least : All (λ m. IsOwn b l.firsts.items m.least) l.made.items
   pub each : (i : ℕ) → i < length b.supervoxels → IsTrue (has (map (λ m. m.least) l.made.items) (at l.firsts.items i))
 

@@ -5,7 +5,8 @@ ghost use Rattle.std.specs.List.{All};
 ghost use Rattle.graph_model.specs.Lists.{has};
 ghost use Rattle.node_ids.specs.Ids.{segments};
 ghost use Rattle.op_model.specs.Chunks.{chunk, top};
-ghost use Rattle.op_model.specs.Valid.{IsBase, IsDataset, IsSupervoxel};
+ghost use Rattle.op_model.specs.Labels.{node};
+ghost use Rattle.op_model.specs.Valid.{IsAscending, IsBase, IsDataset, IsSupervoxel};
 ghost use Rattle.record_rows.specs.LogRows.{layer_nodes};
 ghost use Rattle.plain_hierarchy.specs.Ingest.{ingested};
 ghost use Rattle.layer_laws.specs.Building.{AreLeastLeaves};
@@ -214,6 +215,8 @@ pub fn made_nodes(
     requires firsts { (now : ℕ) → AreLeastLeaves dataset.now base.now (ingested dataset.now base.now now) layer firsts.now }
     ensures made { IfOk result (λ v. (now : ℕ) → map (told base.now) v.items ≡ map told_node (layer_nodes dataset.now base.now (ingested dataset.now base.now now) 0 layer)) }
     ensures nodes { IfOk result (λ v. (now : ℕ) → map (node_of base.now firsts.now) v.items ≡ layer_nodes dataset.now base.now (ingested dataset.now base.now now) 0 layer) }
+    ensures ids { IfOk result (λ v. (now : ℕ) → All (λ m. m.id ≡ node dataset.now base.now (ingested dataset.now base.now now) layer (slice_index_or base.now.supervoxels m.least 0)) v.items) }
+    ensures ascending { IfOk result (λ v. IsAscending (map (λ m. m.id) v.items)) }
     ensures least { IfOk result (λ v. All (λ m. IsOwn base.now firsts.now m.least) v.items) }
     ensures each { IfOk result (λ v. (i : ℕ) → i < length base.now.supervoxels → IsTrue (has (map (λ m. m.least) v.items) (slice_index_or firsts.now i 0))) }
     ensures room { OnOk result ((now : ℕ) → spent_in dataset.now base.now (ingested dataset.now base.now now) layer ≡ None) }

@@ -33,6 +33,8 @@ returns-in-Ok-made_nodes-clause-is c now = record {
   firsts = c.in-Ok.ensures c.args.dataset.now c.args.base.now now c.requires.dataset c.requires.base c.requires.edges (c.requires.below now);
   made = c.in-Ok-made_nodes.ensures.made now;
   nodes = subst (λ ns. map (node_of c.args.base.now ns) c.in-Ok-made_nodes.made.items ≡ layer_nodes c.args.dataset.now c.args.base.now (ingested c.args.dataset.now c.args.base.now now) 0 c.args.layer) c.deref.ensures.value (c.in-Ok-made_nodes.ensures.nodes now);
+  ids = c.in-Ok-made_nodes.ensures.ids now;
+  ascending = c.in-Ok-made_nodes.ensures.ascending;
   least = subst (λ ns. All (λ (m : Made). IsOwn c.args.base.now ns m.least) c.in-Ok-made_nodes.made.items) c.deref.ensures.value c.in-Ok-made_nodes.ensures.least;
   each = λ i l. subst (λ ns. has (map (λ (m : Made). m.least) c.in-Ok-made_nodes.made.items) (get_or ns i 0) ≡ true) c.deref.ensures.value (c.in-Ok-made_nodes.ensures.each i l);
 }
