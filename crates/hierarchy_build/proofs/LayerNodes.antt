@@ -209,8 +209,8 @@ module _ (d : Dataset) (b : Base) (valid : IsDataset d) (base : IsBase d b) (now
       let lb : label d b (ingested d b now) layer v ≡ k + 0 = p.1 in (
         omega (arith, ch, lb),
         tell_ids c (k + 1) os i.1 (λ j l.
-        let e : k + suc j ≡ k + 1 + j = omega arith in
-        subst (λ n. Fact c n (get_or (map (λ (o : Owner). get_or b.supervoxels o.least 0) os) j 0)) e (f (suc j) (omega arith))),
+            let e : k + suc j ≡ k + 1 + j = omega arith in
+            subst (λ n. Fact c n (get_or (map (λ (o : Owner). get_or b.supervoxels o.least 0) os) j 0)) e (f (suc j) (omega arith))),
       )
 
   piece_told : (c : ℕ) → map (told b) (up_from 1 (group c)) ≡ map told_node (map (new_node d b (ingested d b now) 0 layer) (news c))
