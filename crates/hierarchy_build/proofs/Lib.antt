@@ -5,3 +5,4 @@ pub mod Grouping
 pub mod Leaves
 pub mod LayerNodes
 pub mod AllLayers
+pub mod Below

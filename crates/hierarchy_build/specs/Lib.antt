@@ -2,3 +2,4 @@ pub mod Places
 pub mod Pairs
 pub mod Numbers
 pub mod Layers
+pub mod Children

@@ -15,11 +15,13 @@
 //! - `rising`: the least leaves of a layer from those of the layer below.
 //! - `numbering`: the nodes of a layer by their chunks, and their numbers.
 //! - `layers`: all layers.
+//! - `laws`: what stands below a node.
 //! - `lists`: the lists of a base.
 //! - `errors`: why there is no octree.
 #![tactic(auto)]
 
 mod errors;
+mod laws;
 mod layers;
 mod levels;
 mod lists;
@@ -30,6 +32,7 @@ mod rising;
 mod tests;
 
 pub use errors::BuildError;
+pub use laws::children_lead;
 pub use layers::{Layer, build_layers};
 pub use levels::{PlacedEdge, by_level, of_level, placed_edges};
 pub use numbering::{Made, made_nodes};
