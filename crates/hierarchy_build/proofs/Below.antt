@@ -1,27 +1,26 @@
 -- The children of a node are the nodes below whose least leaf leads to its own.
-use Rattle.std.proofs.Common.{◌≡◌, ℕ, suc, ◌+◌, ◌-◌, ◌<◌, ◌≤◌, ◌^◌, Bool, true, false, cond, eqb, List, [], ◌∷◌, length, map, get_or, refl, sym, ◌∙◌, ap, subst, inl, inr, ◌⊎◌, arith, eq-eqb}
-use Rattle.std.specs.List.{AllByRecursion, All, filter, range_with_len}
-use Rattle.std.proofs.lemmas.Bool.{eqb-true, ne_eqb}
-use Rattle.std.proofs.lemmas.List.Elements.{All-from_recursion, recursion_from_All}
+use Rattle.std.proofs.Common.{◌≡◌, ℕ, ◌+◌, ◌-◌, ◌<◌, ◌≤◌, Bool, true, false, cond, eqb, List, [], ◌∷◌, length, map, get_or, refl, sym, ◌∙◌, ap, subst, inl, inr, ◌⊎◌, arith}
+use Rattle.std.specs.List.{AllByRecursion, filter, range_with_len}
+use Rattle.std.proofs.lemmas.Bool.{ne_eqb}
+use Rattle.std.proofs.lemmas.List.Elements.{recursion_from_All}
 use Rattle.op_model.specs.declared.Dataset.{Dataset}
 use Rattle.op_model.specs.declared.Base.{Base}
 use Rattle.op_model.specs.declared.Entry.{Entry}
 use Rattle.graph_model.specs.Lists.{has}
 use Rattle.op_model.specs.Chunks.{chunk, top}
-use Rattle.op_model.specs.Labels.{node, label, Joined}
+use Rattle.op_model.specs.Labels.{node, label}
 use Rattle.op_model.specs.Operations.{ascending, first_entry}
-use Rattle.op_model.specs.Valid.{IsBase, IsDataset, IsAscending}
+use Rattle.op_model.specs.Valid.{IsBase, IsDataset}
 use Rattle.graph_model.proofs.ListLemmas.{contra, has_head, has_tail, has_cases, has_none, filter_has, filter_only}
 use Rattle.op_model.proofs.LegalLemmas.{ascending_has, map_has}
 use Rattle.op_model.proofs.MadeLemmas.{map_only}
 use Rattle.op_model.proofs.LabelLemmas.{joined_label}
 use Rattle.record_rows.specs.LogRows.{children_of}
-use Rattle.record_rows.proofs.DifferLemmas.{Differ, all_more, all_both, differ_map, differ_filter}
+use Rattle.record_rows.proofs.DifferLemmas.{Differ, all_both, differ_map, differ_filter}
 use Rattle.record_rows.proofs.OnceLemmas.{ascending_differ, ascending_lists}
 use Rattle.record_rows.proofs.SumLemmas.{sorted_same, of_ascending}
 use Rattle.components.proofs.Least.{has_below}
 use Rattle.layer_laws.specs.Levels.{leaves}
-use Rattle.layer_laws.specs.Building.{AreLeastLeaves, least_leaf}
 use Rattle.layer_laws.proofs.StepLemmas.{leaves_iff, leaves_above, joined_known}
 use Rattle.layer_laws.proofs.OrderLemmas.{get_has}
 use Rattle.layer_laws.proofs.PlaceLemmas.{at_one}
@@ -143,8 +142,8 @@ module _ (d : Dataset) (b : Base) (now layer : ℕ) (below above : Layer) (valid
     listed i h =
         let Own : ℕ → Type 0 = IsOwn b below.firsts.items in
         let p = back to name Own i below.made.items
-            (all_both (λ (m : Made). Own m.least) (λ (m : Made). m.id ≡ name m.least) below.made.items (recursion_from_All (λ (m : Made). Own m.least) below.made.items low.least)
-            (recursion_from_All (λ (m : Made). m.id ≡ name m.least) below.made.items low.ids)) h in
+        (all_both (λ (m : Made). Own m.least) (λ (m : Made). m.id ≡ name m.least) below.made.items (recursion_from_All (λ (m : Made). Own m.least) below.made.items low.least)
+        (recursion_from_All (λ (m : Made). m.id ≡ name m.least) below.made.items low.ids)) h in
         let q = filter_has to (range_with_len 0 (length b.supervoxels)) p.0 (has_below (length b.supervoxels) p.0 p.1.0) p.2 in
         let r = map_has (λ k. get_or b.supervoxels k 0) (filter to (range_with_len 0 (length b.supervoxels))) p.0 q in
         let s = map_has (node d b (ingested d b now) layer) (leaves_at b above.firsts.items top_place) (get_or b.supervoxels p.0 0) r in
