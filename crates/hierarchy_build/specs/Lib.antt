@@ -1,0 +1,5 @@
+pub mod Places
+pub mod Pairs
+pub mod Numbers
+pub mod Layers
+pub mod Children

@@ -1,0 +1,150 @@
+//! All layers of a base's octree.
+
+ghost use Rattle.std.specs.Prelude.{◌≡◌, ◌<◌, ◌≤◌, ◌-◌, ◌^◌, ℕ, None, Some, length, IfOk, IfErr, OnOk};
+ghost use Rattle.std.specs.List.{range_with_len};
+ghost use Rattle.std.specs.List.Sorted.{IsNonDecreasingBy};
+ghost use Rattle.op_model.specs.Chunks.{top};
+ghost use Rattle.op_model.specs.Legal.{LabelsFit};
+ghost use Rattle.op_model.specs.Valid.{IsBase, IsDataset};
+ghost use Rattle.record_rows.specs.LogRows.{new_nodes};
+ghost use Rattle.plain_hierarchy.specs.Ingest.{ingested};
+ghost use Rattle.layer_laws.specs.Building.{AreLeastLeaves};
+ghost use Rattle.hierarchy_build.specs.Pairs.{AreEdges};
+ghost use Rattle.hierarchy_build.specs.Numbers.{LabelsFitIn, OfSpent, spent_in};
+ghost use Rattle.hierarchy_build.specs.Layers.{all_nodes, AreLayers, IsFirstSpent, IsLayer, last_firsts};
+
+use crate::errors::BuildError;
+use crate::levels::{PlacedEdge, by_level, placed_edges};
+use crate::lists::ids_of;
+use crate::numbering::{Made, made_nodes};
+use crate::rising::rise;
+use op_model::{Base, Dataset};
+use pcg_base::NoMemory;
+use std::alloc::Global;
+
+/// A layer of the octree.
+#[derive(Drop)]
+pub struct Layer {
+    /// For the place of each supervoxel the place of the least leaf of its node.
+    pub firsts: Vec<u32>,
+    /// The nodes by the ids of their chunks, and in each chunk by their numbers.
+    pub made: Vec<Made>,
+}
+
+// each place by itself
+fn places(alloc: Global, count: u32) -> Result<Vec<u32>, NoMemory>
+    ensures { IfOk result (λ v. v.items ≡ range_with_len 0 count) }
+{
+    let mut list = Vec::new(alloc);
+    for place in 0..count {
+        let Ok(()) = list.push(place) else {
+            return Err(NoMemory);
+        };
+    }
+    Ok(list)
+}
+
+// the least leaves of the last layer, or others where there is none
+fn last_firsts<'a>(firsts: &'a [u32], layers: &'a [Layer]) -> &'a [u32]
+    ensures { result.now ≡ last_firsts firsts.now layers.now }
+{
+    match layers.last() {
+        Some(layer) => layer.firsts.as_slice(),
+        None => firsts,
+    }
+}
+
+// a layer from the least leaves of the one below
+fn next_layer(
+    alloc: Global,
+    dataset: &Dataset,
+    base: &Base,
+    edges: &[PlacedEdge],
+    layer: u8,
+    below: &[u32],
+) -> Result<Layer, BuildError>
+    requires dataset { IsDataset dataset.now }
+    requires base { IsBase dataset.now base.now }
+    requires size { length base.now.supervoxels < 2 ^ 32 }
+    requires edges { AreEdges dataset.now base.now edges.now }
+    requires rising { IsNonDecreasingBy (λ e. e.level) edges.now }
+    requires layer { (2 ≤ layer) × (layer ≤ top dataset.now) }
+    requires below { (now : ℕ) → AreLeastLeaves dataset.now base.now (ingested dataset.now base.now now) (layer - 1) below.now }
+    ensures is { IfOk result (λ l. (now : ℕ) → IsLayer dataset.now base.now (ingested dataset.now base.now now) layer l) }
+    ensures room { OnOk result ((now : ℕ) → spent_in dataset.now base.now (ingested dataset.now base.now now) layer ≡ None) }
+    ensures fit { OnOk result ((now : ℕ) → LabelsFitIn dataset.now base.now (ingested dataset.now base.now now) layer) }
+    ensures spent { IfErr result (OfSpent (λ at c. (at ≡ layer) × ((now : ℕ) → spent_in dataset.now base.now (ingested dataset.now base.now now) layer ≡ Some c))) }
+{
+    let Ok(firsts) = rise(alloc, edges, layer, below) else {
+        return Err(BuildError::NoMemory);
+    };
+    match made_nodes(alloc, dataset, base, layer, &firsts) {
+        Ok(made) => Ok(Layer { firsts, made }),
+        Err(error) => Err(error),
+    }
+}
+
+// the layers from 2 to the top, from the edges by ascending levels
+fn layers_over(
+    alloc: Global,
+    dataset: &Dataset,
+    base: &Base,
+    edges: &[PlacedEdge],
+    start: &[u32],
+) -> Result<Vec<Layer>, BuildError>
+    requires dataset { IsDataset dataset.now }
+    requires base { IsBase dataset.now base.now }
+    requires size { length base.now.supervoxels < 2 ^ 32 }
+    requires edges { AreEdges dataset.now base.now edges.now }
+    requires rising { IsNonDecreasingBy (λ e. e.level) edges.now }
+    requires start { start.now ≡ range_with_len 0 (length base.now.supervoxels) }
+    ensures layers { IfOk result (λ v. (now : ℕ) → AreLayers dataset.now base.now (ingested dataset.now base.now now) 2 v.items) }
+    ensures count { IfOk result (λ v. length v.items ≡ top dataset.now - 1) }
+    ensures nodes { IfOk result (λ v. (now : ℕ) → all_nodes base.now v.items ≡ new_nodes dataset.now base.now (ingested dataset.now base.now now) 0) }
+    ensures fit { OnOk result ((now : ℕ) → LabelsFit dataset.now base.now (ingested dataset.now base.now now)) }
+    ensures spent { IfErr result (OfSpent (λ at c. (now : ℕ) → IsFirstSpent dataset.now base.now (ingested dataset.now base.now now) at c)) }
+{
+    let mut layers = Vec::new(alloc);
+    for layer in 2..dataset.grid.top_layer() + 1 {
+        let below = last_firsts(start, &layers);
+        let next = match next_layer(alloc, dataset, base, edges, layer, below) {
+            Ok(next) => next,
+            Err(error) => return Err(error),
+        };
+        let Ok(()) = layers.push(next) else {
+            return Err(BuildError::NoMemory);
+        };
+    }
+    Ok(layers)
+}
+
+/// The layers of a base's octree at its first entry, from layer 2 to the top. The base has fewer than
+/// 2^32 supervoxels.
+///
+/// The nodes of a layer are the components of those below by the active edges whose ends first come
+/// into one chunk in it (Dorkenwald et al. 2022). Each edge is looked at in its own layer alone; time
+/// is linear in the edges and the layers times the supervoxels, but for sorting.
+///
+/// # Errors
+///
+/// `IdsSpent` with the first chunk that has more nodes than its layer's ids have numbers, and
+/// `NoMemory` where there is none for the lists.
+pub fn build_layers(alloc: Global, dataset: &Dataset, base: &Base) -> Result<Vec<Layer>, BuildError>
+    requires dataset { IsDataset dataset.now }
+    requires base { IsBase dataset.now base.now }
+    requires size { length base.now.supervoxels < 2 ^ 32 }
+    ensures layers { IfOk result (λ v. (now : ℕ) → AreLayers dataset.now base.now (ingested dataset.now base.now now) 2 v.items) }
+    ensures count { IfOk result (λ v. length v.items ≡ top dataset.now - 1) }
+    ensures nodes { IfOk result (λ v. (now : ℕ) → all_nodes base.now v.items ≡ new_nodes dataset.now base.now (ingested dataset.now base.now now) 0) }
+    ensures fit { OnOk result ((now : ℕ) → LabelsFit dataset.now base.now (ingested dataset.now base.now now)) }
+    ensures spent { IfErr result (OfSpent (λ at c. (now : ℕ) → IsFirstSpent dataset.now base.now (ingested dataset.now base.now now) at c)) }
+{
+    let Ok(edges) = placed_edges(alloc, dataset, base) else {
+        return Err(BuildError::NoMemory);
+    };
+    let edges = by_level(edges);
+    let Ok(start) = places(alloc, ids_of(base).len() as u32) else {
+        return Err(BuildError::NoMemory);
+    };
+    layers_over(alloc, dataset, base, &edges, &start)
+}
