@@ -1,0 +1,2 @@
+//! Records appended one by one.
+#![tactic(auto)]
