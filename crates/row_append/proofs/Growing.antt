@@ -76,7 +76,7 @@ pub record End : Type 0 where
   pub chain : Chain
   pub word : ℕ
 
-pub stores_of : ℕ → List End → List Store
+unfoldable pub stores_of : ℕ → List End → List Store
 stores_of tail [] = []
 stores_of tail (e ∷ ends) = record { word = e.word; value = tail } ∷ stores_of tail ends
 

@@ -16,7 +16,7 @@ use Rattle.record_rows.specs.Growth.{new_place}
 use Rattle.row_append.specs.Ends.{along, is_logged}
 use Rattle.row_append.proofs.Growing.{Leaves}
 
-or_none : (a b : Bool) → (a || b) ≡ false → (a ≡ false) × (b ≡ false)
+pub or_none : (a b : Bool) → (a || b) ≡ false → (a ≡ false) × (b ≡ false)
 or_none true b e = absurd (false≢true (sym e))
 or_none false b e = (refl, e)
 

@@ -1,10 +1,11 @@
 -- Chains that grow as records are appended, and the pointer where each one ends.
-use Rattle.std.specs.Prelude.{◌≡◌, ℕ, ◌+◌, ◌*◌, ◌<◌, Bool, true, false, ◌||◌, List, [], ◌∷◌, length, get_or, Option, Some, None, slice_index}
-use Rattle.std.specs.List.{slice_get}
+use Rattle.std.specs.Prelude.{◌≡◌, ℕ, ◌+◌, ◌*◌, ◌<◌, Bool, true, false, ◌||◌, List, [], ◌∷◌, length, get_or, Option, Some, None, slice_index, IsFalse}
+use Rattle.std.specs.List.{slice_get, list_any}
 use Rattle.op_model.specs.declared.Dataset.{Dataset}
 use Rattle.record_rows.specs.Rows.{Row, HeaderRow, SupervoxelRow, ChunkRow, NodeRow, LinkRow, EdgeRow, ChangeRow, ItemRow, EntryRow}
-use Rattle.record_rows.specs.Chains.{edge_at, version_of, child_of, node_in}
+use Rattle.record_rows.specs.Chains.{edge_at, version_of, child_of, node_in, is_node, has_id}
 use Rattle.record_rows.specs.Words.{words_of}
+use Rattle.record_rows.specs.Walks.{is_supervoxel, is_chunk}
 
 -- the edges of a supervoxel, the links of a child, the links to a parent, the nodes of a chunk
 pub data Chain : Type 0 where
@@ -19,6 +20,25 @@ belongs (EdgesOf v) row = edge_at v row
 belongs (VersionsOf id) row = version_of id row
 belongs (ChildrenOf id) row = child_of id row
 belongs (NodesIn chunk) row = node_in chunk row
+
+-- whether the record is the chain's owner, which has a pointer to the first member
+unfoldable pub owns : Chain → Row → Bool
+owns (EdgesOf v) row = is_supervoxel v row
+owns (VersionsOf id) row = has_id id row
+owns (ChildrenOf id) row = is_node id row
+owns (NodesIn chunk) row = is_chunk chunk row
+
+-- whether the record is the chain's owner or one of its members
+unfoldable pub has_part : Chain → Row → Bool
+has_part chain row = owns chain row || belongs chain row
+
+-- no record is a member of the chain
+abbrev pub HasNone : Chain → List Row → Type 0
+HasNone chain rows = IsFalse (list_any (belongs chain) rows)
+
+-- neither the chain's owner stands among the records nor a member
+abbrev pub IsFree : Chain → List Row → Type 0
+IsFree chain rows = IsFalse (list_any (has_part chain) rows)
 
 -- along which of these chains the four pointers of a record lead, from the owner to the first member, or from a member to the next
 unfoldable pub along : Row → List (Option Chain)
