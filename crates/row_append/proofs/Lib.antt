@@ -2,3 +2,4 @@ pub mod Growing
 pub mod Leaving
 pub mod Pushing
 pub mod Moving
+pub mod EndLaws

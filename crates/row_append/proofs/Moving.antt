@@ -44,7 +44,7 @@ apart : (chain : Chain) (row : Row) (k : ℕ) → has_part chain row ≡ false �
 apart chain row k f e = false≢true (sym f ∙ part_at row (along row) k chain (parts row) e)
 
 -- where no part of a chain stands, nothing leads along it
-nothing_along : (chain : Chain) (rows : List Row) (i : ℕ) → IsFree chain rows → IsAlong chain rows i → ⊥
+pub nothing_along : (chain : Chain) (rows : List Row) (i : ℕ) → IsFree chain rows → IsAlong chain rows i → ⊥
 nothing_along chain rows i f a = apart chain a.row a.k (any_at (has_part chain) rows a.place a.row f a.there) a.leads
 
 pub free_has_none : (chain : Chain) (rows : List Row) → IsFree chain rows → HasNone chain rows
@@ -123,7 +123,7 @@ module _ (rows : List Row) (headed : IsHeaded rows) (row : Row) where
       one j a z = elim (along_less chain j a) [ inl b ↦ e.only j b (sym (same j b) ∙ z) | inr b ↦ absurd (apart chain row b.0 f b.2) ]
 
   -- a chain that ends at the record
-  ends_here : (chain : Chain) (k : ℕ) → k < 4 → get_or (along row) k None ≡ Some chain → ((j : ℕ) → get_or (along row) j None ≡ Some chain → j ≡ k)
+  pub ends_here : (chain : Chain) (k : ℕ) → k < 4 → get_or (along row) k None ≡ Some chain → ((j : ℕ) → get_or (along row) j None ≡ Some chain → j ≡ k)
       → pointer_word (rows ++ row ∷ []) (length rows) [] (get_or (aims row) k Nowhere) ≡ 0 → ((i : ℕ) → IsAlong chain rows i → get_or (words_of (rows ++ row ∷ [])) i 0 ≡ 0 → ⊥)
       → EndsAt chain (rows ++ row ∷ []) (8 * length rows + (4 + k))
   unfolding OwnAlong
@@ -137,6 +137,6 @@ module _ (rows : List Row) (headed : IsHeaded rows) (row : Row) where
       one j a w = elim (along_less chain j a) [ inl b ↦ absurd (older j b w) | inr b ↦ b.3 ∙ ap (λ m. 8 * length rows + (4 + m)) (only b.0 b.2) ]
 
   -- with a member behind, no older pointer along the chain is empty
-  older_filled : (chain : Chain) → belongs chain row ≡ true → (i : ℕ) → IsAlong chain rows i → get_or (words_of (rows ++ row ∷ [])) i 0 ≡ 0 → ⊥
+  pub older_filled : (chain : Chain) → belongs chain row ≡ true → (i : ℕ) → IsAlong chain rows i → get_or (words_of (rows ++ row ∷ [])) i 0 ≡ 0 → ⊥
   older_filled chain b i a z =
       filled_not (get_or (words_of rows) i 0) (length rows) has_rows (ap (λ t. filled (get_or (words_of rows) i 0) (cond t (length rows) 0)) (sym b) ∙ (sym (grown chain i a) ∙ z))
