@@ -1,5 +1,6 @@
 pub mod Growing
 pub mod Leaving
-pub mod Pushing
+pub mod Pushes
 pub mod Moving
 pub mod EndLaws
+pub mod Counting
