@@ -5,12 +5,15 @@ use Rattle.std.proofs.lemmas.Bool.{false≢true, eqb-true, eq-eqb, or_cases, or_
 use Rattle.op_model.specs.declared.Dataset.{Dataset}
 use Rattle.op_model.specs.declared.Edge.{Edge}
 use Rattle.op_model.specs.declared.Entry.{Entry}
+use Rattle.op_model.specs.declared.Asked.TheVariants as asked
 use Rattle.graph_model.specs.Lists.{head_or}
 use Rattle.record_rows.specs.Rows.{Row, HeaderRow, SupervoxelRow, ChunkRow, NodeRow, LinkRow, EdgeRow, EntryRow, Node, Link}
 use Rattle.record_rows.specs.Chains.{aims, edge_at, version_of, child_of, node_in, is_node, has_id, change_of, retires}
-use Rattle.record_rows.specs.Words.{place_from, row_words, words_of, bit, strength, kind_code, names}
+use Rattle.record_rows.specs.Words.{place_from, fixed_words, pointer_word, row_words, words_from, words_of, layout_word, grid_word, bit, strength, kind_code, names}
 use Rattle.record_rows.specs.Growth.{stored}
-use Rattle.row_append.specs.Ends.{Chain, EdgesOf, VersionsOf, ChildrenOf, NodesIn, belongs, along, EndsAt, IsHeaded, is_logged}
+use Rattle.row_append.specs.Ends.{Chain, EdgesOf, VersionsOf, ChildrenOf, NodesIn, belongs, along, HasNone, EndsAt, IsHeaded, is_logged}
+use Rattle.row_append.specs.Tails.{IsIngest}
+use Rattle.std.specs.Bool.{IsFalse}
 use Rattle.row_append.proofs.Growing.{Leaves, End, stores_of, Among, pushed}
 use Rattle.row_append.proofs.Leaving.{any_at, supervoxel_leaves, chunk_leaves, link_leaves, edge_leaves, node_leaves, entry_leaves, supervoxel_own, chunk_own, edge_own, node_own, link_own, entry_own}
 
@@ -123,3 +126,45 @@ module _ (rows : List Row) (headed : IsHeaded rows) where
         (λ p r h. link_leaves (length rows) l r)
         ((a, eq-eqb l.parent l.parent refl), ((b, eq-eqb l.child l.child refl), tt))
         (link_among l i j)
+
+-- the header alone
+pub header_pushed : (d : Dataset) (supervoxels chunks : ℕ) → layout_word d.layout ∷ grid_word d.grid ∷ (supervoxels + chunks * 2 ^ 32) ∷ d.merge_affinity ∷ 0 ∷ 0 ∷ 0 ∷ 0 ∷ [] ≡ words_of (HeaderRow d supervoxels chunks ∷ [])
+unfolding words_of words_from row_words fixed_words aims pointer_word
+header_pushed d supervoxels chunks = refl
+
+-- The same of words that code has made step by step.
+module _ (rows : List Row) (headed : IsHeaded rows) (words : List ℕ) (image : words ≡ words_of rows) where
+  pub supervoxel_stored : (v : ℕ) (after : List ℕ) → after ≡ words ++ 2 ∷ v ∷ 0 ∷ 0 ∷ 0 ∷ 0 ∷ 0 ∷ 0 ∷ [] → HasNone (EdgesOf v) rows → HasNone (VersionsOf v) rows
+      → after ≡ words_of (rows ++ SupervoxelRow v ∷ [])
+  unfolding belongs
+  supervoxel_stored v after p e f = p ∙ (ap (λ ws. ws ++ 2 ∷ v ∷ 0 ∷ 0 ∷ 0 ∷ 0 ∷ 0 ∷ 0 ∷ []) image ∙ supervoxel_pushed rows headed v e f)
+
+  pub chunk_stored : (k : ℕ) (after : List ℕ) → after ≡ words ++ 3 ∷ k ∷ 0 ∷ 0 ∷ 0 ∷ 0 ∷ 0 ∷ 0 ∷ [] → HasNone (NodesIn k) rows → after ≡ words_of (rows ++ ChunkRow k ∷ [])
+  unfolding belongs
+  chunk_stored k after p e = p ∙ (ap (λ ws. ws ++ 3 ∷ k ∷ 0 ∷ 0 ∷ 0 ∷ 0 ∷ 0 ∷ 0 ∷ []) image ∙ chunk_pushed rows headed k e)
+
+  pub entry_stored : (x : Entry) (at : ℕ) (after : List ℕ) → after ≡ words ++ 9 ∷ at ∷ 0 ∷ 0 ∷ 0 ∷ 0 ∷ 0 ∷ 0 ∷ [] → IsIngest x at → IsFalse (list_any is_logged rows)
+      → after ≡ words_of (rows ++ EntryRow x ∷ [])
+  unfolding kind_code names
+  entry_stored x at after p is n = p ∙ (ap₂ (λ ws row. ws ++ row) image own ∙ entry_pushed rows headed x is.0 n)
+    where
+      own : 9 ∷ at ∷ 0 ∷ 0 ∷ 0 ∷ 0 ∷ 0 ∷ 0 ∷ [] ≡ (9 + kind_code x.asked * 2 ^ 8 + names x.asked * 2 ^ 32) ∷ x.at ∷ (x.client * 2 ^ 32 + x.line) ∷ x.number ∷ 0 ∷ 0 ∷ 0 ∷ 0 ∷ []
+      own = rw (is.0, is.1, is.2, is.3, is.4) refl
+
+  module _ (place : ℕ) (last : place ≡ length rows) where
+    pub edge_stored : (x : Edge) (i j first weight : ℕ) (one two after : List ℕ) → one ≡ set words i place → two ≡ set one j place
+        → after ≡ two ++ first ∷ x.pair.a ∷ x.pair.b ∷ weight ∷ 0 ∷ 0 ∷ 0 ∷ 0 ∷ [] → first ≡ 6 + bit x.active * 2 ^ 8 + 0 * 2 ^ 32 → weight ≡ strength x.weight
+        → EndsAt (EdgesOf x.pair.a) rows i → EndsAt (EdgesOf x.pair.b) rows j → IsFalse (list_any (change_of x.pair) rows) → after ≡ words_of (rows ++ EdgeRow 0 x ∷ [])
+    edge_stored x i j first weight one two after p q r s t a b n = rw (r, q, p, image, last, s, t) (edge_pushed rows headed 0 x i j a b n)
+
+    pub node_stored : (n : Node) (id least made i : ℕ) (one after : List ℕ) → one ≡ set words i place → after ≡ one ++ 4 ∷ id ∷ least ∷ made ∷ 0 ∷ 0 ∷ 0 ∷ 0 ∷ []
+        → n.id ≡ id → head_or 0 n.leaves ≡ least → n.made ≡ made → EndsAt (NodesIn n.chunk) rows i → HasNone (ChildrenOf n.id) rows → HasNone (VersionsOf n.id) rows
+        → IsFalse (list_any (retires n) rows) → after ≡ words_of (rows ++ NodeRow n ∷ [])
+    unfolding belongs
+    node_stored n id least made i one after p q r s t a e f g = rw (q, p, image, last, sym r, sym s, sym t) (node_pushed rows headed n i a e f g)
+
+    pub link_stored : (l : Link) (child child_at entry parent_at i j : ℕ) (one two after : List ℕ) → one ≡ set words i place → two ≡ set one j place
+        → after ≡ two ++ 5 ∷ child ∷ child_at ∷ entry ∷ parent_at ∷ 0 ∷ 0 ∷ 0 ∷ [] → l.child ≡ child → l.entry ≡ entry
+        → place_from (has_id l.child) 0 rows ≡ child_at → place_from (is_node l.parent) 0 rows ≡ parent_at
+        → EndsAt (ChildrenOf l.parent) rows i → EndsAt (VersionsOf l.child) rows j → after ≡ words_of (rows ++ LinkRow l ∷ [])
+    link_stored l child child_at entry parent_at i j one two after p q r s t u v a b = rw (r, q, p, image, last, sym s, sym t, sym u, sym v) (link_pushed rows headed l i j a b)

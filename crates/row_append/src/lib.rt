@@ -21,4 +21,8 @@ mod pushing;
 mod putting;
 mod tail;
 
+pub use pushing::{
+    NewLink, NewNode, push_chunk, push_edge, push_entry, push_header, push_link, push_node,
+    push_supervoxel,
+};
 pub use tail::Tail;
