@@ -4,3 +4,4 @@ pub mod Pushes
 pub mod Moving
 pub mod EndLaws
 pub mod Counting
+pub mod LastLemmas

@@ -1,8 +1,23 @@
 -- Where chains end with one more record behind the others.
-use Rattle.std.specs.Prelude.{ℕ, ◌≢◌, ◌+◌, ◌*◌, List, [], ◌∷◌, ◌++◌, length, IsFalse}
+use Rattle.std.specs.Prelude.{◌≡◌, ℕ, ◌≢◌, ◌+◌, ◌*◌, ◌<◌, ◌≤◌, ◌⊎◌, List, [], ◌∷◌, ◌++◌, length, drop, Some, IsTrue, IsFalse}
+use Rattle.std.specs.List.{slice_get}
 use Rattle.op_model.specs.declared.Edge.{Edge}
 use Rattle.record_rows.specs.Rows.{Row, SupervoxelRow, ChunkRow, NodeRow, LinkRow, EdgeRow, Node, Link}
-use Rattle.row_append.specs.Ends.{Chain, EdgesOf, VersionsOf, ChildrenOf, NodesIn, has_part, HasNone, IsFree, EndsAt, IsHeaded}
+use Rattle.record_rows.specs.Words.{words_of}
+use Rattle.row_append.specs.Ends.{Chain, EdgesOf, VersionsOf, ChildrenOf, NodesIn, owns, belongs, has_part, HasNone, IsFree, EndsAt, IsHeaded}
+
+-- the record that has the pointer where a chain ends: the owner of a chain that has no member, or the last member
+abbrev pub IsLast : Chain → List Row → ℕ → Row → Type 0
+IsLast chain rows place row = (IsTrue (owns chain row) × HasNone chain rows) ⊎ (IsTrue (belongs chain row) × HasNone chain (drop (place + 1) rows))
+
+abbrev pub EndsAreLast : Type 0
+EndsAreLast =
+    (rows : List Row) (chain : Chain) (word : ℕ) → IsHeaded rows → EndsAt chain rows word
+    → (place : ℕ) × (row : Row) × (slice_get rows place ≡ Some row) × (8 * place + 4 ≤ word) × (word < 8 * place + 8) × IsLast chain rows place row
+
+-- the word where a chain ends is one of the words
+abbrev pub EndsLie : Type 0
+EndsLie = (rows : List Row) (chain : Chain) (word : ℕ) → EndsAt chain rows word → word < length (words_of rows)
 
 -- a chain that has begun ends where it did, if the new record is no part of it
 abbrev pub EndsStay : Type 0

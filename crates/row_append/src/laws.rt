@@ -1,7 +1,14 @@
 //! Where chains end with one more record behind, each law the contract of a function that does
 //! nothing. They are written out in `specs/Laws.antt`.
 
-ghost use Rattle.row_append.specs.Laws.{ChunksBegin, EdgesEnd, EndsStay, FreeHasNone, FreeStays, HeadersStay, LinksEnd, NodesBegin, NodesEnd, SupervoxelsBegin};
+ghost use Rattle.row_append.specs.Laws.{ChunksBegin, EdgesEnd, EndsAreLast, EndsLie, EndsStay, FreeHasNone, FreeStays, HeadersStay, LinksEnd, NodesBegin, NodesEnd, SupervoxelsBegin};
+
+/// Where a chain ends: at a pointer of its owner if it has no member, else of its last member
+/// (`last`); and at one of the words (`within`).
+pub fn ends_are_last()
+    ensures last { EndsAreLast }
+    ensures within { EndsLie }
+{}
 
 /// A record leaves the ends of the chains that it is no part of (`ends`), and leaves free those
 /// that are free (`free`); and records that begin with a header still do (`headers`).

@@ -53,6 +53,7 @@ pub fn push_header(w: &mut VecWords, dataset: Dataset, supervoxels: u32, chunks:
     requires empty { w.old.words ≡ [] }
     requires room { 8 ≤ w.old.spare }
     ensures words { w.new.words ≡ words_of (HeaderRow dataset supervoxels chunks ∷ []) }
+    ensures length { length w.new.words ≡ length w.old.words + 8 }
     ensures room { w.new.spare ≡ w.old.spare - 8 }
 {
     put_row(
@@ -75,6 +76,7 @@ pub fn push_supervoxel(w: &mut VecWords, id: NodeId) -> Spot
     requires room { 8 ≤ w.old.spare }
     requires places { length w.old.words < 8 * 2 ^ 32 }
     ensures words { (rows : List Row) → IsHeaded rows → w.old.words ≡ words_of rows → HasNone (EdgesOf id) rows → HasNone (VersionsOf id) rows → w.new.words ≡ words_of (rows ++ SupervoxelRow id ∷ []) }
+    ensures length { length w.new.words ≡ length w.old.words + 8 }
     ensures room { w.new.spare ≡ w.old.spare - 8 }
     ensures place { (rows : List Row) → w.old.words ≡ words_of rows → result ≡ length rows }
 {
@@ -89,6 +91,7 @@ pub fn push_chunk(w: &mut VecWords, id: NodeId) -> Spot
     requires room { 8 ≤ w.old.spare }
     requires places { length w.old.words < 8 * 2 ^ 32 }
     ensures words { (rows : List Row) → IsHeaded rows → w.old.words ≡ words_of rows → HasNone (NodesIn id) rows → w.new.words ≡ words_of (rows ++ ChunkRow id ∷ []) }
+    ensures length { length w.new.words ≡ length w.old.words + 8 }
     ensures room { w.new.spare ≡ w.old.spare - 8 }
     ensures place { (rows : List Row) → w.old.words ≡ words_of rows → result ≡ length rows }
 {
@@ -107,6 +110,7 @@ pub fn push_edge(w: &mut VecWords, edge: Edge, lesser: Tail, greater: Tail) -> S
     ensures words { (rows : List Row) → IsHeaded rows → w.old.words ≡ words_of rows
         → EndsAt (EdgesOf edge.pair.a) rows (word_number lesser) → EndsAt (EdgesOf edge.pair.b) rows (word_number greater) → IsFalse (list_any (change_of edge.pair) rows)
         → w.new.words ≡ words_of (rows ++ EdgeRow 0 edge ∷ []) }
+    ensures length { length w.new.words ≡ length w.old.words + 8 }
     ensures room { w.new.spare ≡ w.old.spare - 8 }
     ensures place { (rows : List Row) → w.old.words ≡ words_of rows → result ≡ length rows }
 {
@@ -138,6 +142,7 @@ pub fn push_node(w: &mut VecWords, node: NewNode, nodes: Tail) -> Spot
     ensures words { (rows : List Row) (n : Node) → IsHeaded rows → w.old.words ≡ words_of rows → n.id ≡ node.id → head_or 0 n.leaves ≡ node.least → n.made ≡ node.made
         → EndsAt (NodesIn n.chunk) rows (word_number nodes) → HasNone (ChildrenOf n.id) rows → HasNone (VersionsOf n.id) rows → IsFalse (list_any (retires n) rows)
         → w.new.words ≡ words_of (rows ++ NodeRow n ∷ []) }
+    ensures length { length w.new.words ≡ length w.old.words + 8 }
     ensures room { w.new.spare ≡ w.old.spare - 8 }
     ensures place { (rows : List Row) → w.old.words ≡ words_of rows → result ≡ length rows }
 {
@@ -170,6 +175,7 @@ pub fn push_link(w: &mut VecWords, link: NewLink, children: Tail, versions: Tail
         → place_from (has_id l.child) 0 rows ≡ link.child_at → place_from (is_node l.parent) 0 rows ≡ link.parent_at
         → EndsAt (ChildrenOf l.parent) rows (word_number children) → EndsAt (VersionsOf l.child) rows (word_number versions)
         → w.new.words ≡ words_of (rows ++ LinkRow l ∷ []) }
+    ensures length { length w.new.words ≡ length w.old.words + 8 }
     ensures room { w.new.spare ≡ w.old.spare - 8 }
     ensures place { (rows : List Row) → w.old.words ≡ words_of rows → result ≡ length rows }
 {
@@ -198,6 +204,7 @@ pub fn push_entry(w: &mut VecWords, at: u64) -> Spot
     requires room { 8 ≤ w.old.spare }
     requires places { length w.old.words < 8 * 2 ^ 32 }
     ensures words { (rows : List Row) (e : Entry) → IsHeaded rows → w.old.words ≡ words_of rows → IsIngest e at → IsFalse (list_any is_logged rows) → w.new.words ≡ words_of (rows ++ EntryRow e ∷ []) }
+    ensures length { length w.new.words ≡ length w.old.words + 8 }
     ensures room { w.new.spare ≡ w.old.spare - 8 }
     ensures place { (rows : List Row) → w.old.words ≡ words_of rows → result ≡ length rows }
 {
