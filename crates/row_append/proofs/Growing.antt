@@ -1,17 +1,17 @@
 -- One record behind the others: which empty pointers it fills.
-use Rattle.std.proofs.Common.{◌≡◌, ℕ, zero, suc, ◌+◌, ◌-◌, ◌*◌, ◌/◌, ◌%◌, ◌<◌, ◌≤◌, Bool, true, false, cond, ◌||◌, eqb, leb, List, [], ◌∷◌, ◌++◌, length, map, take, get_or, Option, Some, None, refl, sym, ◌∙◌, ap, ap₂, subst, inl, inr, ◌⊎◌, arith, append-nil}
+use Rattle.std.proofs.Common.{◌≡◌, ℕ, zero, suc, ◌+◌, ◌-◌, ◌*◌, ◌/◌, ◌%◌, ◌<◌, ◌≤◌, Bool, true, false, cond, eqb, leb, List, [], ◌∷◌, ◌++◌, length, get_or, Option, Some, None, refl, sym, ◌∙◌, ap, ap₂, subst, inl, inr, ◌⊎◌, arith, append-nil}
 use Rattle.std.specs.List.{slice_get, AllByRecursion, list_any}
-use Rattle.std.proofs.lemmas.Bool.{eqb-true, eq-eqb, cases_Bool, leb-true, leb-false, or_left, or_right}
+use Rattle.std.proofs.lemmas.Bool.{eq-eqb, cases_Bool, leb-true, leb-false, or_left, or_right}
 use Rattle.std.proofs.Math.Dec.{eqb-suc-zero}
-use Rattle.std.proofs.lemmas.Option.{slice_get_within, slice_get-get_or}
+use Rattle.std.proofs.lemmas.Option.{slice_get-get_or}
 use Rattle.op_model.specs.declared.Dataset.{Dataset}
 use Rattle.record_rows.specs.Rows.{Row, HeaderRow, SupervoxelRow, ChunkRow, NodeRow, LinkRow, EdgeRow, ChangeRow, ItemRow, EntryRow}
-use Rattle.record_rows.specs.Chains.{Aim, Nowhere, First, Next, aims}
-use Rattle.record_rows.specs.Words.{place_from, fixed_words, pointer_word, row_words, words_from, words_of}
+use Rattle.record_rows.specs.Chains.{Aim, Nowhere, aims}
+use Rattle.record_rows.specs.Words.{place_from, row_words, words_from, words_of}
 use Rattle.record_rows.specs.Growth.{Store, new_place, filled, stored, names_word}
 use Rattle.record_rows.proofs.GrowthLemmas.{grown_fixed, grown_pointer}
 use Rattle.record_rows.proofs.StoreLemmas.{AllWanted, stored-words_of}
-use Rattle.row_append.specs.Ends.{Chain, EdgesOf, VersionsOf, ChildrenOf, NodesIn, belongs, along, IsAlong, EndsAt, IsHeaded}
+use Rattle.row_append.specs.Ends.{Chain, belongs, along, IsAlong, EndsAt}
 
 -- what a new record does to an empty pointer: along a chain it is filled if the record belongs to the chain; any other stays empty
 abbrev pub Fills : ℕ → Row → List (Option Chain) → List Aim → Type 0
@@ -145,14 +145,15 @@ module _ (d : Dataset) (s c : ℕ) (rest : List Row) (row : Row) where
         let e : i ≡ 8 * p + j = omega arith in
         let r : Row = get_or old p row in
         let h : slice_get old p ≡ Some r = slice_get-get_or old p row (omega arith) in
-        elim (cases_Bool (leb 4 j))
-        [ inl g ↦
-        let m : 4 ≤ j = leb-true 4 j g in
-        let f : i ≡ 8 * p + (4 + (j - 4)) = omega arith in
-        subst (Covered ends) (sym f) (pointer_covered p (j - 4) r h (omega arith) (8 * p + (4 + (j - 4))) refl)
-        | inr g ↦
-        let m : j < 4 = leb-false 4 j g in
-        inl (subst (λ x. get_or (words_of old) x 0 ≡ get_or (words_of (old ++ row ∷ [])) x 0) (sym e) (sym (grown_fixed d s c rest (row ∷ []) p j r h m))) ]
+        elim (cases_Bool (leb 4 j)) [
+          | inl g ↦
+              let m : 4 ≤ j = leb-true 4 j g in
+              let f : i ≡ 8 * p + (4 + (j - 4)) = omega arith in
+              subst (Covered ends) (sym f) (pointer_covered p (j - 4) r h (omega arith) (8 * p + (4 + (j - 4))) refl)
+          | inr g ↦
+              let m : j < 4 = leb-false 4 j g in
+              inl (subst (λ x. get_or (words_of old) x 0 ≡ get_or (words_of (old ++ row ∷ [])) x 0) (sym e) (sym (grown_fixed d s c rest (row ∷ []) p j r h m)))
+        ]
 
     -- with a store of the new place where each of its chains ended, and the record's own words behind, the words are those of the longer list
     pub pushed : stored (stores_of tail ends) (words_of old) ++ row_words (old ++ row ∷ []) tail row [] ≡ words_of (old ++ row ∷ [])

@@ -1,6 +1,6 @@
 -- Where a chain ends: at its owner's first pointer or its last member's next one, as the empty pointer along it shows.
 use Rattle.std.proofs.Common.{◌≡◌, ℕ, zero, suc, ◌+◌, ◌*◌, ◌<◌, ◌≤◌, Bool, true, false, cond, ◌||◌, eqb, List, [], ◌∷◌, length, drop, get_or, Option, Some, None, refl, sym, ◌∙◌, ap, subst, inl, inr, ◌⊎◌, arith}
-use Rattle.std.specs.List.{slice_get, list_any}
+use Rattle.std.specs.List.{list_any}
 use Rattle.std.proofs.lemmas.Bool.{eq-eqb, or_left, or_right}
 use Rattle.std.proofs.lemmas.Option.{slice_get_within}
 use Rattle.op_model.specs.declared.Dataset.{Dataset}
@@ -10,7 +10,7 @@ use Rattle.record_rows.specs.Walks.{is_supervoxel, is_chunk}
 use Rattle.record_rows.specs.Words.{place_from, pointer_word, words_of}
 use Rattle.record_rows.proofs.Lookups.{pointer_at}
 use Rattle.record_rows.proofs.TellLemmas.{length-words_of}
-use Rattle.row_append.specs.Ends.{Chain, EdgesOf, VersionsOf, ChildrenOf, NodesIn, belongs, owns, HasNone, along, IsAlong, EndsAt, IsHeaded}
+use Rattle.row_append.specs.Ends.{Chain, EdgesOf, VersionsOf, ChildrenOf, NodesIn, belongs, owns, HasNone, along, IsAlong, IsHeaded}
 use Rattle.row_append.specs.Laws.{IsLast, EndsAreLast, EndsLie}
 
 -- a pointer along a chain is its owner's to the first member, or a member's to the next

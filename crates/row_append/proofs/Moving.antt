@@ -1,18 +1,17 @@
 -- Where chains end with one more record behind: at its own next pointer where it is a member, at its first pointer where it is the owner, and where they ended before in any other case.
-use Rattle.std.proofs.Common.{◌≡◌, ℕ, zero, suc, ◌+◌, ◌*◌, ◌<◌, ◌≤◌, Bool, true, false, cond, ◌||◌, eqb, List, [], ◌∷◌, ◌++◌, length, drop, get_or, Option, Some, None, refl, sym, ◌∙◌, ap, ap₂, subst, inl, inr, ◌⊎◌, arith, length-append}
+use Rattle.std.proofs.Common.{◌≡◌, ℕ, zero, suc, ◌+◌, ◌*◌, ◌<◌, ◌≤◌, Bool, true, false, cond, eqb, List, [], ◌∷◌, ◌++◌, length, drop, get_or, Option, Some, None, refl, sym, ◌∙◌, ap, subst, inl, inr, ◌⊎◌, arith}
 use Rattle.std.specs.List.{slice_get, list_any}
-use Rattle.std.proofs.lemmas.Bool.{false≢true, eqb-true, eq-eqb, or_left, or_right, cases_Bool}
-use Rattle.op_model.specs.declared.Edge.{Edge}
-use Rattle.record_rows.specs.Rows.{Row, HeaderRow, SupervoxelRow, ChunkRow, NodeRow, LinkRow, EdgeRow, ChangeRow, ItemRow, EntryRow, Node, Link}
-use Rattle.record_rows.specs.Chains.{Aim, Nowhere, First, Next, aims, edge_at, version_of, child_of, node_in, is_node, has_id}
+use Rattle.std.proofs.lemmas.Bool.{false≢true, eqb-true, eq-eqb, or_left, or_right}
+use Rattle.record_rows.specs.Rows.{Row, HeaderRow, SupervoxelRow, ChunkRow, NodeRow, LinkRow, EdgeRow, ChangeRow, ItemRow, EntryRow}
+use Rattle.record_rows.specs.Chains.{Nowhere, aims, edge_at, version_of, child_of, node_in, is_node, has_id}
 use Rattle.record_rows.specs.Walks.{is_supervoxel, is_chunk}
-use Rattle.record_rows.specs.Words.{place_from, pointer_word, words_of}
+use Rattle.record_rows.specs.Words.{pointer_word, words_of}
 use Rattle.record_rows.specs.Growth.{filled}
 use Rattle.record_rows.proofs.GrowthLemmas.{slice_get-append}
 use Rattle.record_rows.proofs.Lookups.{pointer_at}
-use Rattle.row_append.specs.Ends.{Chain, EdgesOf, VersionsOf, ChildrenOf, NodesIn, belongs, owns, has_part, HasNone, IsFree, along, IsAlong, EndsAt, IsHeaded}
+use Rattle.row_append.specs.Ends.{Chain, belongs, owns, has_part, HasNone, IsFree, along, IsAlong, EndsAt, IsHeaded}
 use Rattle.row_append.proofs.Growing.{grown_along}
-use Rattle.row_append.proofs.Leaving.{or_none, any_at, still_none}
+use Rattle.row_append.proofs.Leaving.{or_none, any_at}
 
 -- what leads along a chain is its owner or a member
 Parts : Row → List (Option Chain) → Type 0
@@ -107,9 +106,10 @@ module _ (rows : List Row) (headed : IsHeaded rows) (row : Row) where
   along_less : (chain : Chain) (i : ℕ) → IsAlong chain (rows ++ row ∷ []) i → IsAlong chain rows i ⊎ OwnAlong chain i
   unfolding OwnAlong
   along_less chain i a =
-      elim (got_last rows row a.place a.row a.there)
-      [ inl h ↦ inl (record { place = a.place; k = a.k; row = a.row; there = h; pointer = a.pointer; leads = a.leads; number = a.number })
-      | inr h ↦ inr (a.k, a.pointer, subst (λ r. get_or (along r) a.k None ≡ Some chain) h.1 a.leads, subst (λ p. i ≡ 8 * p + (4 + a.k)) h.0 a.number) ]
+      elim (got_last rows row a.place a.row a.there) [
+        | inl h ↦ inl (record { place = a.place; k = a.k; row = a.row; there = h; pointer = a.pointer; leads = a.leads; number = a.number })
+        | inr h ↦ inr (a.k, a.pointer, subst (λ r. get_or (along r) a.k None ≡ Some chain) h.1 a.leads, subst (λ p. i ≡ 8 * p + (4 + a.k)) h.0 a.number)
+      ]
 
   -- the chain of which the record is no part
   pub stays : (chain : Chain) (i : ℕ) → EndsAt chain rows i → has_part chain row ≡ false → EndsAt chain (rows ++ row ∷ []) i

@@ -1,11 +1,10 @@
 -- The words with one record of each kind behind: the stores that it takes, and its own words.
-use Rattle.std.proofs.Common.{◌≡◌, ℕ, ◌+◌, ◌*◌, ◌^◌, Bool, true, false, ◌||◌, eqb, List, [], ◌∷◌, ◌++◌, length, set, Some, refl, sym, ◌∙◌, ap, ap₂, subst, inl, inr}
+use Rattle.std.proofs.Common.{◌≡◌, ℕ, ◌+◌, ◌*◌, ◌^◌, true, false, eqb, List, [], ◌∷◌, ◌++◌, length, set, Some, refl, sym, ◌∙◌, ap, ap₂, subst, inl, inr}
 use Rattle.std.specs.List.{slice_get, AllByRecursion, list_any}
 use Rattle.std.proofs.lemmas.Bool.{false≢true, eqb-true, eq-eqb, or_cases, or_left, or_right}
 use Rattle.op_model.specs.declared.Dataset.{Dataset}
 use Rattle.op_model.specs.declared.Edge.{Edge}
 use Rattle.op_model.specs.declared.Entry.{Entry}
-use Rattle.op_model.specs.declared.Asked.TheVariants as asked
 use Rattle.graph_model.specs.Lists.{head_or}
 use Rattle.record_rows.specs.Rows.{Row, HeaderRow, SupervoxelRow, ChunkRow, NodeRow, LinkRow, EdgeRow, EntryRow, Node, Link}
 use Rattle.record_rows.specs.Chains.{aims, edge_at, version_of, child_of, node_in, is_node, has_id, change_of, retires}
@@ -102,9 +101,9 @@ module _ (rows : List Row) (headed : IsHeaded rows) where
   edge_pushed made x i j a b n =
       ap (λ ws. set (set (words_of rows) i (length rows)) j (length rows) ++ ws) (sym (edge_own rows made x n))
       ∙ pushed_rows rows (EdgeRow made x) (record { chain = EdgesOf x.pair.a; word = i } ∷ record { chain = EdgesOf x.pair.b; word = j } ∷ []) headed
-        (λ p r h. edge_leaves (length rows) made x r (any_at (change_of x.pair) rows p r n h))
-        ((a, or_left (eqb x.pair.a x.pair.a) (eqb x.pair.b x.pair.a) (eq-eqb x.pair.a x.pair.a refl)), ((b, or_right (eqb x.pair.a x.pair.b) (eqb x.pair.b x.pair.b) (eq-eqb x.pair.b x.pair.b refl)), tt))
-        (edge_among made x i j)
+      (λ p r h. edge_leaves (length rows) made x r (any_at (change_of x.pair) rows p r n h))
+      ((a, or_left (eqb x.pair.a x.pair.a) (eqb x.pair.b x.pair.a) (eq-eqb x.pair.a x.pair.a refl)), ((b, or_right (eqb x.pair.a x.pair.b) (eqb x.pair.b x.pair.b) (eq-eqb x.pair.b x.pair.b refl)), tt))
+      (edge_among made x i j)
 
   pub node_pushed : (n : Node) (i : ℕ) → EndsAt (NodesIn n.chunk) rows i → list_any (child_of n.id) rows ≡ false → list_any (version_of n.id) rows ≡ false → list_any (retires n) rows ≡ false
       → set (words_of rows) i (length rows) ++ 4 ∷ n.id ∷ head_or 0 n.leaves ∷ n.made ∷ 0 ∷ 0 ∷ 0 ∷ 0 ∷ [] ≡ words_of (rows ++ NodeRow n ∷ [])
@@ -112,9 +111,9 @@ module _ (rows : List Row) (headed : IsHeaded rows) where
   node_pushed n i a e f g =
       ap (λ ws. set (words_of rows) i (length rows) ++ ws) (sym (node_own rows n e f g))
       ∙ pushed_rows rows (NodeRow n) (record { chain = NodesIn n.chunk; word = i } ∷ []) headed
-        (λ p r h. node_leaves (length rows) n r (any_at (child_of n.id) rows p r e h))
-        ((a, eq-eqb n.chunk n.chunk refl), tt)
-        (node_among n i)
+      (λ p r h. node_leaves (length rows) n r (any_at (child_of n.id) rows p r e h))
+      ((a, eq-eqb n.chunk n.chunk refl), tt)
+      (node_among n i)
 
   pub link_pushed : (l : Link) (i j : ℕ) → EndsAt (ChildrenOf l.parent) rows i → EndsAt (VersionsOf l.child) rows j
       → set (set (words_of rows) i (length rows)) j (length rows) ++ 5 ∷ l.child ∷ place_from (has_id l.child) 0 rows ∷ l.entry ∷ place_from (is_node l.parent) 0 rows ∷ 0 ∷ 0 ∷ 0 ∷ []
@@ -123,9 +122,9 @@ module _ (rows : List Row) (headed : IsHeaded rows) where
   link_pushed l i j a b =
       ap (λ ws. set (set (words_of rows) i (length rows)) j (length rows) ++ ws) (sym (link_own rows l))
       ∙ pushed_rows rows (LinkRow l) (record { chain = ChildrenOf l.parent; word = i } ∷ record { chain = VersionsOf l.child; word = j } ∷ []) headed
-        (λ p r h. link_leaves (length rows) l r)
-        ((a, eq-eqb l.parent l.parent refl), ((b, eq-eqb l.child l.child refl), tt))
-        (link_among l i j)
+      (λ p r h. link_leaves (length rows) l r)
+      ((a, eq-eqb l.parent l.parent refl), ((b, eq-eqb l.child l.child refl), tt))
+      (link_among l i j)
 
 -- the header alone
 pub header_pushed : (d : Dataset) (supervoxels chunks : ℕ) → layout_word d.layout ∷ grid_word d.grid ∷ (supervoxels + chunks * 2 ^ 32) ∷ d.merge_affinity ∷ 0 ∷ 0 ∷ 0 ∷ 0 ∷ [] ≡ words_of (HeaderRow d supervoxels chunks ∷ [])

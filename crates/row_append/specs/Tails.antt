@@ -6,7 +6,7 @@ use Rattle.row_append.specs.declared.tail.Tail.{Tail}
 
 -- the number of the word that the pointer is
 abbrev pub word_number : Tail → ℕ
-word_number t = 8 * t.record + t.word
+word_number t = 8 * t.spot + t.word
 
 -- the first entry of a log, with this timestamp
 abbrev pub IsIngest : Entry → ℕ → Type 0

@@ -20,6 +20,8 @@ pub mod laws;
 mod pushing;
 mod putting;
 mod tail;
+#[cfg(test)]
+mod tests;
 
 pub use pushing::{
     NewLink, NewNode, push_chunk, push_edge, push_entry, push_header, push_link, push_node,

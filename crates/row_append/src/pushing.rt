@@ -150,16 +150,7 @@ pub fn push_node(w: &mut VecWords, node: NewNode, nodes: Tail) -> Spot
     fill(w, nodes, place);
     put_row(
         w,
-        [
-            4,
-            node.id.0,
-            node.least.0,
-            node.made as u64,
-            0,
-            0,
-            0,
-            0,
-        ],
+        [4, node.id.0, node.least.0, node.made as u64, 0, 0, 0, 0],
     );
     place
 }

@@ -24,7 +24,7 @@ pub(crate) fn fill(w: &mut VecWords, tail: Tail, place: Spot)
     requires within { word_number tail < length w.old.words }
     ensures { w.new ≡ word_store (slice_set w.old.words (word_number tail) place) w.old.spare }
 {
-    w.set(8 * tail.record.0 as u64 + tail.word as u64, place.0 as u64);
+    w.set(8 * tail.spot.0 as u64 + tail.word as u64, place.0 as u64);
 }
 
 /// Puts one record behind the words.

@@ -5,7 +5,7 @@ use row_words::Spot;
 #[derive(Clone, Copy, PartialEq, Eq, Debug, Drop)]
 pub struct Tail {
     /// The record that has the pointer.
-    pub record: Spot,
+    pub spot: Spot,
     /// Which of its words the pointer is, from 4 to 7.
     pub word: u8,
 }

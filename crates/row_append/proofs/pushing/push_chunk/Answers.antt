@@ -1,5 +1,4 @@
 use Rattle.std.proofs.Common.{rules}
-use Rattle.row_append.specs.Tails.{word_number}
 use Rattle.row_append.proofs.Pushes.{chunk_stored}
 use Rattle.row_append.proofs.pushing.push_chunk.Goals as goal
 
