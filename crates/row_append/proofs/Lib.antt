@@ -5,3 +5,4 @@ pub mod Moving
 pub mod EndLaws
 pub mod Counting
 pub mod LastLemmas
+pub mod FoundLemmas

@@ -1,9 +1,9 @@
 -- Where chains end with one more record behind the others.
-use Rattle.std.specs.Prelude.{◌≡◌, ℕ, ◌≢◌, ◌+◌, ◌*◌, ◌<◌, ◌≤◌, ◌⊎◌, List, [], ◌∷◌, ◌++◌, length, drop, Some, IsTrue, IsFalse}
-use Rattle.std.specs.List.{slice_get}
+use Rattle.std.specs.Prelude.{◌≡◌, ℕ, Bool, ◌≢◌, ◌+◌, ◌*◌, ◌<◌, ◌≤◌, ◌⊎◌, List, [], ◌∷◌, ◌++◌, length, drop, Some, IsTrue, IsFalse}
+use Rattle.std.specs.List.{slice_get, list_any}
 use Rattle.op_model.specs.declared.Edge.{Edge}
 use Rattle.record_rows.specs.Rows.{Row, SupervoxelRow, ChunkRow, NodeRow, LinkRow, EdgeRow, Node, Link}
-use Rattle.record_rows.specs.Words.{words_of}
+use Rattle.record_rows.specs.Words.{place_from, words_of}
 use Rattle.row_append.specs.Ends.{Chain, EdgesOf, VersionsOf, ChildrenOf, NodesIn, owns, belongs, has_part, HasNone, IsFree, EndsAt, IsHeaded}
 
 -- the record that has the pointer where a chain ends: the owner of a chain that has no member, or the last member
@@ -64,3 +64,11 @@ FreeHasNone = (rows : List Row) (chain : Chain) → IsFree chain rows → HasNon
 -- records that begin with a header still do
 abbrev pub HeadersStay : Type 0
 HeadersStay = (rows more : List Row) → IsHeaded rows → IsHeaded (rows ++ more)
+
+-- the first record that a test passes is still the first with more behind
+abbrev pub FoundStays : Type 0
+FoundStays = (test : Row → Bool) (rows more : List Row) → 0 < place_from test 0 rows → place_from test 0 (rows ++ more) ≡ place_from test 0 rows
+
+-- where no record passes a test, the next one that does is the first
+abbrev pub FoundLast : Type 0
+FoundLast = (test : Row → Bool) (rows : List Row) (row : Row) → IsFalse (list_any test rows) → IsTrue (test row) → place_from test 0 (rows ++ row ∷ []) ≡ length rows

@@ -1,7 +1,7 @@
 //! Where chains end with one more record behind, each law the contract of a function that does
 //! nothing. They are written out in `specs/Laws.antt`.
 
-ghost use Rattle.row_append.specs.Laws.{ChunksBegin, EdgesEnd, EndsAreLast, EndsLie, EndsStay, FreeHasNone, FreeStays, HeadersStay, LinksEnd, NodesBegin, NodesEnd, SupervoxelsBegin};
+ghost use Rattle.row_append.specs.Laws.{ChunksBegin, EdgesEnd, EndsAreLast, EndsLie, EndsStay, FoundLast, FoundStays, FreeHasNone, FreeStays, HeadersStay, LinksEnd, NodesBegin, NodesEnd, SupervoxelsBegin};
 
 /// Where a chain ends: at a pointer of its owner if it has no member, else of its last member
 /// (`last`); and at one of the words (`within`).
@@ -32,4 +32,11 @@ pub fn members_end()
     ensures edges { EdgesEnd }
     ensures nodes { NodesEnd }
     ensures links { LinksEnd }
+{}
+
+/// The place of the first record that a test passes: it stays when more come behind (`stays`), and
+/// is the new record's if no other passes (`last`).
+pub fn first_places_stay()
+    ensures stays { FoundStays }
+    ensures last { FoundLast }
 {}
