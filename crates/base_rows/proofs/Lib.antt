@@ -1,0 +1,4 @@
+pub mod Passing
+pub mod TailLists
+pub mod Begun
+pub mod EdgeSteps
