@@ -120,7 +120,7 @@ owners_are d ids chunks words w = record {
   unlogged = unlogged_owners d ids chunks;
 }
 
-map_same : (xs : List ℕ) → map (λ x. x) xs ≡ xs
+pub map_same : (xs : List ℕ) → map (λ x. x) xs ≡ xs
 map_same [] = refl
 map_same (x ∷ xs) = ap (λ ys. x ∷ ys) (map_same xs)
 

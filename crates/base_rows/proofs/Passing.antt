@@ -1,5 +1,5 @@
 -- Which records pass a test, by their kinds.
-use Rattle.std.proofs.Common.{◌≡◌, ℕ, ◌+◌, ◌<◌, Bool, true, false, ◌||◌, List, [], ◌∷◌, ◌++◌, length, map, take, take_all, get_or, ◌≤◌, refl, sym, ◌∙◌, ap}
+use Rattle.std.proofs.Common.{◌≡◌, ℕ, zero, suc, arith, ◌+◌, ◌<◌, Bool, true, false, ◌||◌, List, [], ◌∷◌, ◌++◌, length, map, take, take_all, get_or, ◌≤◌, refl, sym, ◌∙◌, ap}
 use Rattle.std.specs.List.{list_any}
 use Rattle.std.proofs.lemmas.List.{take_more, map-append}
 use Rattle.op_model.specs.declared.Dataset.{Dataset}
@@ -63,3 +63,9 @@ headed d s c rest = record { dataset = d; supervoxels = s; chunks = c; rest = re
 -- all of a list
 pub take_whole : {X : Type 0} (xs : List X) (k : ℕ) → length xs ≤ k → take k xs ≡ xs
 take_whole xs k l = take_all k xs l
+
+-- the item at a place, whatever stands for none
+pub get_or_any : {X : Type 0} (xs : List X) (i : ℕ) (x y : X) → i < length xs → get_or xs i x ≡ get_or xs i y
+get_or_any [] i x y l = absurd (omega arith)
+get_or_any (z ∷ xs) zero x y l = refl
+get_or_any (z ∷ xs) (suc i) x y l = get_or_any xs i x y (omega arith)

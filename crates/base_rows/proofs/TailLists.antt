@@ -1,5 +1,7 @@
 -- Lists of tails, and what is told by them with one more record.
-use Rattle.std.proofs.Common.{◌≡◌, ℕ, zero, suc, ◌+◌, ◌*◌, ◌<◌, ◌⊎◌, inl, inr, Bool, true, false, List, [], ◌∷◌, ◌++◌, length, get_or, set, refl, sym, ◌∙◌, ap, subst, arith, add-one}
+use Rattle.std.proofs.Common.{◌≡◌, ℕ, zero, suc, ◌+◌, ◌*◌, ◌<◌, ◌⊎◌, inl, inr, Bool, true, false, eqb, List, [], ◌∷◌, ◌++◌, length, get_or, set, refl, sym, ◌∙◌, ap, subst, arith, add-one}
+use Rattle.std.proofs.lemmas.List.{get_or-set_same, get_or-set_other, length-set}
+use Rattle.std.proofs.lemmas.Bool.{cases_Bool, eqb-true, eqb-false}
 use Rattle.record_rows.specs.Rows.{Row}
 use Rattle.row_append.specs.Ends.{Chain, has_part, EndsAt, IsHeaded}
 use Rattle.row_append.specs.Tails.{word_number}
@@ -47,6 +49,23 @@ tails_told chain ids rows row old new h are count each = record {
     | inr o ↦ subst (λ x. EndsAt (chain (get_or ids i 0)) (rows ++ row ∷ []) (word_number x)) (sym o.0) (ends_stay rows row (chain (get_or ids i 0)) _ h (are.each i t l) o.1)
   ];
 }
+
+-- where one tail is told anew, and the record is no part of the other ids' chains
+pub tail_set : (chain : ℕ → Chain) (ids : List ℕ) (rows : List Row) (row : Row) (old : List Tail) (j : ℕ) (new : Tail) → IsHeaded rows → AreTails chain ids rows old → IsOnce ids → j < length ids
+    → EndsAt (chain (get_or ids j 0)) (rows ++ row ∷ []) (word_number new) → ((u : ℕ) → (get_or ids j 0 ≡ u → ⊥) → has_part (chain u) row ≡ false)
+    → AreTails chain ids (rows ++ row ∷ []) (set old j new)
+tail_set chain ids rows row old j new h are once l ends apart =
+    tails_told chain ids rows row old (set old j new) h are (length-set old j new ∙ are.count)
+    (λ i t m. elim (cases_Bool (eqb i j)) [
+    | inl e ↦
+      let q : i ≡ j = eqb-true i j e in
+      let g : get_or (set old j new) j t ≡ new = get_or-set_same old j new t (let c = are.count in omega (arith, c, l)) in
+      inl (subst (λ k. EndsAt (chain (get_or ids k 0)) (rows ++ row ∷ []) (word_number (get_or (set old j new) k t))) (sym q)
+      (subst (λ y. EndsAt (chain (get_or ids j 0)) (rows ++ row ∷ []) (word_number y)) (sym g) ends))
+    | inr f ↦
+      let a = eqb-false i j f in
+      inr (get_or-set_other old j i new t a, apart (get_or ids i 0) (λ q. a (once i j m l (sym q))))
+    ])
 
 -- where the chain of one of the ids ends
 pub end_given : (chain : ℕ → Chain) (ids : List ℕ) (rows : List Row) (tails : List Tail) (i v : ℕ) (t : Tail) → AreTails chain ids rows tails → i < length ids → get_or ids i 0 ≡ v
