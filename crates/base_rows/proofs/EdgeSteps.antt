@@ -1,6 +1,5 @@
 -- The ends of the supervoxels' edges, before the first edge and with one more.
-use Rattle.std.proofs.Common.{◌≡◌, ℕ, zero, suc, ◌+◌, ◌*◌, ◌<◌, ◌⊎◌, inl, inr, Bool, true, false, eqb, ◌||◌, List, [], ◌∷◌, ◌++◌, length, map, get_or, set, refl, sym, ◌∙◌, ap, ap₂, subst, arith, append-nil}
-use Rattle.std.specs.List.{list_any}
+use Rattle.std.proofs.Common.{◌≡◌, ℕ, ◌+◌, ◌*◌, ◌<◌, ◌⊎◌, inl, inr, true, false, eqb, List, [], ◌∷◌, ◌++◌, length, map, get_or, set, refl, sym, ◌∙◌, ap, subst, arith}
 use Rattle.std.proofs.lemmas.List.{get_or-set_same, get_or-set_other, length-set}
 use Rattle.std.proofs.lemmas.Bool.{cases_Bool, eqb-true, eqb-false, ne_eqb}
 use Rattle.op_model.specs.declared.Dataset.{Dataset}
@@ -8,14 +7,14 @@ use Rattle.record_rows.specs.Rows.{Row, HeaderRow, SupervoxelRow, ChunkRow, Edge
 use Rattle.record_rows.specs.Chains.{edge_at}
 use Rattle.record_rows.specs.Walks.{is_supervoxel}
 use Rattle.record_rows.specs.Words.{words_of}
-use Rattle.row_append.specs.Ends.{Chain, EdgesOf, owns, belongs, has_part, EndsAt, IsFree, IsHeaded, is_logged}
+use Rattle.row_append.specs.Ends.{EdgesOf, owns, belongs, has_part, EndsAt, is_logged}
 use Rattle.row_append.specs.Tails.{word_number}
 use Rattle.row_append.specs.declared.tail.Tail.{Tail}
 use Rattle.row_append.proofs.EndLaws.{headers_stay, supervoxels_begin, edges_end}
 use Rattle.base_rows.specs.declared.lists.BaseEdge.{BaseEdge}
 use Rattle.base_rows.specs.Lists.{IsOnce, IsPlaced}
 use Rattle.base_rows.specs.BaseRows.{owner_rows}
-use Rattle.base_rows.specs.States.{tails_from, AreTails, AreRows, Edging}
+use Rattle.base_rows.specs.States.{tails_from, AreRows, Edging}
 use Rattle.base_rows.proofs.Passing.{NonePass, none_both, none_map, headed}
 use Rattle.base_rows.proofs.TailLists.{length-tails_from, tail_at, tails_told}
 use Rattle.base_rows.proofs.Begun.{begun}
@@ -55,13 +54,13 @@ module _ (ids : List ℕ) (rows : List Row) (old new : List ℕ) (tails : List T
       ⊎ ((get_or told i t ≡ get_or tails i t) × (has_part (EdgesOf (get_or ids i 0)) (EdgeRow 0 x.edge) ≡ false))
   each i t l = elim (cases_Bool (eqb i x.greater)) [
     | inl e ↦
-      let q : i ≡ x.greater = eqb-true i x.greater e in
-      let g : get_or told x.greater t ≡ two = get_or-set_same (set tails x.lesser one) x.greater two t (omega (arith, first_long, l, q)) in
-      let n : 8 * length rows + 6 ≡ word_number two = omega (arith, here) in
-      inl (subst (λ k. EndsAt (EdgesOf (get_or ids k 0)) (rows ++ EdgeRow 0 x.edge ∷ []) (word_number (get_or told k t))) (sym q)
-      (subst (λ y. EndsAt (EdgesOf (get_or ids x.greater 0)) (rows ++ EdgeRow 0 x.edge ∷ []) (word_number y)) (sym g)
-      (subst (λ v. EndsAt (EdgesOf v) (rows ++ EdgeRow 0 x.edge ∷ []) (word_number two)) (sym p.greater_is)
-      (subst (EndsAt (EdgesOf x.edge.pair.b) (rows ++ EdgeRow 0 x.edge ∷ [])) n (edges_end rows 0 x.edge st.rows_are.headed p.differ).1))))
+        let q : i ≡ x.greater = eqb-true i x.greater e in
+        let g : get_or told x.greater t ≡ two = get_or-set_same (set tails x.lesser one) x.greater two t (omega (arith, first_long, l, q)) in
+        let n : 8 * length rows + 6 ≡ word_number two = omega (arith, here) in
+        inl (subst (λ k. EndsAt (EdgesOf (get_or ids k 0)) (rows ++ EdgeRow 0 x.edge ∷ []) (word_number (get_or told k t))) (sym q)
+        (subst (λ y. EndsAt (EdgesOf (get_or ids x.greater 0)) (rows ++ EdgeRow 0 x.edge ∷ []) (word_number y)) (sym g)
+        (subst (λ v. EndsAt (EdgesOf v) (rows ++ EdgeRow 0 x.edge ∷ []) (word_number two)) (sym p.greater_is)
+        (subst (EndsAt (EdgesOf x.edge.pair.b) (rows ++ EdgeRow 0 x.edge ∷ [])) n (edges_end rows 0 x.edge st.rows_are.headed p.differ).1))))
     | inr f ↦ other f (cases_Bool (eqb i x.lesser))
   ]
     where

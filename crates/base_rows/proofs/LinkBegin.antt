@@ -1,21 +1,21 @@
 -- The ends of the nodes' children and of the links from supervoxels and nodes, and where their records stand, before the first link.
-use Rattle.std.proofs.Common.{◌≡◌, ℕ, zero, suc, ◌+◌, ◌-◌, ◌*◌, ◌<◌, ◌≤◌, ◌⊎◌, inl, inr, Bool, true, false, List, [], ◌∷◌, ◌++◌, length, length-append, map, get_or, refl, sym, ◌∙◌, ap, subst, arith, append_assoc, append-nil}
-use Rattle.std.specs.List.{list_any}
+use Rattle.std.proofs.Common.{◌≡◌, ℕ, suc, ◌+◌, ◌-◌, ◌*◌, ◌<◌, ◌≤◌, inl, inr, Bool, true, false, List, [], ◌∷◌, ◌++◌, length, length-append, map, get_or, refl, sym, ◌∙◌, ap, subst, arith, append_assoc, append-nil}
 use Rattle.std.proofs.lemmas.List.{get_or_append_left, get_or-append_right}
 use Rattle.std.proofs.lemmas.Bool.{ne_eqb, eq-eqb, cases_lt, lt-ltb, le-ltb}
 use Rattle.op_model.specs.declared.Dataset.{Dataset}
-use Rattle.record_rows.specs.Rows.{Row, HeaderRow, SupervoxelRow, ChunkRow, NodeRow, EdgeRow, Node}
+use Rattle.record_rows.specs.Rows.{Row, HeaderRow, SupervoxelRow, ChunkRow, NodeRow, LinkRow, EdgeRow, Node}
 use Rattle.record_rows.specs.Chains.{version_of, child_of, has_id, is_node}
 use Rattle.record_rows.specs.Words.{place_from, words_of}
 use Rattle.record_rows.proofs.ImageLemmas.{length-map}
-use Rattle.row_append.specs.Ends.{Chain, ChildrenOf, VersionsOf, owns, belongs, has_part, EndsAt, IsFree, IsHeaded, is_logged}
+use Rattle.row_append.specs.Ends.{ChildrenOf, VersionsOf, owns, belongs, has_part, EndsAt, IsHeaded, is_logged}
 use Rattle.row_append.specs.Tails.{word_number}
 use Rattle.row_append.specs.declared.tail.Tail.{Tail}
 use Rattle.row_append.proofs.EndLaws.{headers_stay, supervoxels_begin, nodes_begin}
 use Rattle.base_rows.specs.declared.lists.BaseEdge.{BaseEdge}
-use Rattle.base_rows.specs.Lists.{IsOnce}
-use Rattle.base_rows.specs.BaseRows.{owner_rows, edged_rows, noded_rows, ids_of}
-use Rattle.base_rows.specs.States.{tails_from, AreTails, AreRows, Linking, owner_place}
+use Rattle.base_rows.specs.declared.lists.BaseLink.{BaseLink}
+use Rattle.base_rows.specs.Lists.{IsOnce, link_of}
+use Rattle.base_rows.specs.BaseRows.{owner_rows, edged_rows, noded_rows, linked_rows, ids_of}
+use Rattle.base_rows.specs.States.{tails_from, AreRows, Linking, owner_place}
 use Rattle.base_rows.proofs.Passing.{NonePass, none_both, none_map, headed}
 use Rattle.base_rows.proofs.TailLists.{length-tails_from, tail_at}
 use Rattle.base_rows.proofs.Begun.{begun, found}
@@ -196,8 +196,8 @@ module _ (d : Dataset) (ids chunks : List ℕ) (edges : List BaseEdge) (ns : Lis
   owner_stands i l = elim (cases_lt i (length ids)) [
     | inl m ↦ ap (λ u. place_from (has_id u) 0 rows) (get_or_append_left ids nodes 0 i m) ∙ (supervoxel_stands i m ∙ sym (place_low i m))
     | inr m ↦
-      let n = length-append ids nodes in
-      ap (λ u. place_from (has_id u) 0 rows) (get_or-append_right ids nodes (length ids) i 0 refl m) ∙ ((node_stands (i - length ids) (omega (arith, n, l, m))).0 ∙ sym (place_high i m))
+        let n = length-append ids nodes in
+        ap (λ u. place_from (has_id u) 0 rows) (get_or-append_right ids nodes (length ids) i 0 refl m) ∙ ((node_stands (i - length ids) (omega (arith, n, l, m))).0 ∙ sym (place_high i m))
   ]
 
   abbrev versions : List Tail
@@ -214,21 +214,21 @@ module _ (d : Dataset) (ids chunks : List ℕ) (edges : List BaseEdge) (ns : Lis
   version_end : (i : ℕ) (t : Tail) → i < length (ids ++ nodes) → EndsAt (VersionsOf (get_or (ids ++ nodes) i 0)) rows (word_number (get_or versions i t))
   version_end i t l = elim (cases_lt i (length ids)) [
     | inl m ↦
-      let b = length-tails_from 1 5 (length ids) in
-      subst (λ v. EndsAt (VersionsOf v) rows (word_number (get_or versions i t))) (sym (get_or_append_left ids nodes 0 i m))
-      (subst (λ y. EndsAt (VersionsOf (get_or ids i 0)) rows (word_number y))
-      (sym (get_or_append_left (tails_from 1 5 (length ids)) (tails_from first 5 (length nodes)) t i (omega (arith, b, m)) ∙ tail_at 1 5 (length ids) i t m))
-      (supervoxel_versions_end i m))
+        let b = length-tails_from 1 5 (length ids) in
+        subst (λ v. EndsAt (VersionsOf v) rows (word_number (get_or versions i t))) (sym (get_or_append_left ids nodes 0 i m))
+        (subst (λ y. EndsAt (VersionsOf (get_or ids i 0)) rows (word_number y))
+        (sym (get_or_append_left (tails_from 1 5 (length ids)) (tails_from first 5 (length nodes)) t i (omega (arith, b, m)) ∙ tail_at 1 5 (length ids) i t m))
+        (supervoxel_versions_end i m))
     | inr m ↦
-      let n = length-append ids nodes in
-      let k : i - length ids < length nodes = omega (arith, n, l, m) in
-      subst (λ v. EndsAt (VersionsOf v) rows (word_number (get_or versions i t))) (sym (get_or-append_right ids nodes (length ids) i 0 refl m))
-      (subst (λ y. EndsAt (VersionsOf (get_or nodes (i - length ids) 0)) rows (word_number y))
-      (sym (get_or-append_right (tails_from 1 5 (length ids)) (tails_from first 5 (length nodes)) (length ids) i t (length-tails_from 1 5 (length ids)) m ∙ tail_at first 5 (length nodes) (i - length ids) t k))
-      (node_versions_end (i - length ids) k))
+        let n = length-append ids nodes in
+        let k : i - length ids < length nodes = omega (arith, n, l, m) in
+        subst (λ v. EndsAt (VersionsOf v) rows (word_number (get_or versions i t))) (sym (get_or-append_right ids nodes (length ids) i 0 refl m))
+        (subst (λ y. EndsAt (VersionsOf (get_or nodes (i - length ids) 0)) rows (word_number y))
+        (sym (get_or-append_right (tails_from 1 5 (length ids)) (tails_from first 5 (length nodes)) (length ids) i t (length-tails_from 1 5 (length ids)) m ∙ tail_at first 5 (length nodes) (i - length ids) t k))
+        (node_versions_end (i - length ids) k))
   ]
 
-  noded_are : (words : List ℕ) → words ≡ words_of rows → AreRows rows words
+  pub noded_are : (words : List ℕ) → words ≡ words_of rows → AreRows rows words
   unfolding noded_rows is_logged
   noded_are words w =
       let a = edged_are d ids chunks edges (words_of (edged_rows d ids chunks edges)) refl in
@@ -248,3 +248,26 @@ module _ (d : Dataset) (ids chunks : List ℕ) (edges : List BaseEdge) (ns : Lis
     nodes_stand = λ i l. (node_stands i l).1;
     behind = let e = front_long in omega (arith, e);
   }
+
+  -- with links behind them
+  pub linked_are : (links : List BaseLink) → IsHeaded (linked_rows d ids chunks edges ns links) × NonePass is_logged (linked_rows d ids chunks edges ns links)
+  unfolding linked_rows is_logged
+  linked_are links =
+      let a = noded_are (words_of rows) refl in
+      let more : List Row = map (λ (x : BaseLink). LinkRow (link_of (ids ++ nodes) nodes x)) links in
+      (headers_stay rows more a.headed, none_both is_logged rows more a.unlogged (none_map is_logged (λ (x : BaseLink). LinkRow (link_of (ids ++ nodes) nodes x)) (λ x. refl) links))
+
+-- how many records stand before the nodes
+pub before_nodes : (d : Dataset) (ids chunks : List ℕ) (edges : List BaseEdge) → length (noded_rows d ids chunks edges []) ≡ 1 + length ids + length chunks + length edges
+unfolding noded_rows edged_rows owner_rows
+before_nodes d ids chunks edges =
+    let s : List Row = map SupervoxelRow ids in
+    let c : List Row = map ChunkRow chunks in
+    let e : List Row = edge_rows edges in
+    let a = length-append (s ++ c) (e) in
+    let b = length-append s c in
+    let x = length-map SupervoxelRow ids in
+    let y = length-map ChunkRow chunks in
+    let z = length-map (λ (x : BaseEdge). EdgeRow 0 x.edge) edges in
+    let n = length-append ((s ++ c) ++ e) [] in
+    omega (arith, a, b, x, y, z, n)

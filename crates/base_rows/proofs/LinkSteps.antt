@@ -1,18 +1,16 @@
 -- The ends of the nodes' children and of the links from supervoxels and nodes, with one more link.
-use Rattle.std.proofs.Common.{◌≡◌, ℕ, ◌+◌, ◌*◌, ◌<◌, Bool, true, false, eqb, cond, ◌-◌, List, [], ◌∷◌, ◌++◌, length, get_or, set, ltb, refl, sym, ◌∙◌, ap, subst, arith}
-use Rattle.std.specs.List.{list_any}
-use Rattle.std.proofs.lemmas.Bool.{ne_eqb, eq-eqb}
+use Rattle.std.proofs.Common.{◌≡◌, ℕ, ◌+◌, ◌*◌, ◌<◌, Bool, true, false, cond, ◌-◌, List, [], ◌∷◌, ◌++◌, length, get_or, set, ltb, refl, sym, ◌∙◌, subst, arith}
+use Rattle.std.proofs.lemmas.Bool.{ne_eqb}
 use Rattle.record_rows.specs.Rows.{Row, LinkRow, Link}
 use Rattle.record_rows.specs.Chains.{version_of, child_of, has_id, is_node}
-use Rattle.record_rows.specs.Words.{place_from, words_of}
-use Rattle.row_append.specs.Ends.{Chain, ChildrenOf, VersionsOf, owns, belongs, has_part, EndsAt, is_logged}
-use Rattle.row_append.specs.Tails.{word_number}
+use Rattle.record_rows.specs.Words.{words_of}
+use Rattle.row_append.specs.Ends.{ChildrenOf, VersionsOf, owns, belongs, has_part, EndsAt, is_logged}
 use Rattle.row_append.specs.declared.tail.Tail.{Tail}
 use Rattle.row_append.proofs.EndLaws.{links_end}
 use Rattle.row_append.proofs.FoundLemmas.{found_stays}
 use Rattle.base_rows.specs.declared.lists.BaseLink.{BaseLink}
 use Rattle.base_rows.specs.Lists.{IsWithin, link_of}
-use Rattle.base_rows.specs.States.{AreTails, Linking, owner_place}
+use Rattle.base_rows.specs.States.{Linking, owner_place}
 use Rattle.base_rows.proofs.TailLists.{tail_set}
 use Rattle.base_rows.proofs.EdgeSteps.{rows_more}
 use Rattle.base_rows.proofs.OwnerLists.{once_behind}

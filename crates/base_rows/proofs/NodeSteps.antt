@@ -1,16 +1,15 @@
 -- The ends of the chunks' nodes, before the first node and with one more.
-use Rattle.std.proofs.Common.{◌≡◌, ℕ, suc, ◌+◌, ◌*◌, ◌<◌, ◌⊎◌, inl, inr, Bool, true, false, eqb, List, [], ◌∷◌, ◌++◌, length, take, map, get_or, Some, set, refl, sym, ◌∙◌, ap, subst, arith, append_assoc}
+use Rattle.std.proofs.Common.{◌≡◌, ℕ, suc, ◌+◌, ◌*◌, ◌<◌, false, List, [], ◌∷◌, ◌++◌, length, take, map, get_or, Some, set, refl, sym, ◌∙◌, ap, subst, arith, append_assoc}
 use Rattle.std.specs.List.{list_any}
-use Rattle.std.proofs.lemmas.List.{get_or-set_same, get_or-set_other, length-set}
 use Rattle.std.proofs.lemmas.Option.{slice_get-get_or}
 use Rattle.record_rows.proofs.ImageLemmas.{length-map}
-use Rattle.std.proofs.lemmas.Bool.{cases_Bool, eqb-true, eqb-false, ne_eqb}
+use Rattle.std.proofs.lemmas.Bool.{ne_eqb}
 use Rattle.op_model.specs.declared.Dataset.{Dataset}
 use Rattle.record_rows.specs.Rows.{Row, HeaderRow, SupervoxelRow, ChunkRow, NodeRow, LinkRow, EdgeRow, EntryRow, ChangeRow, ItemRow, Node}
-use Rattle.record_rows.specs.Chains.{edge_at, version_of, child_of, node_in}
+use Rattle.record_rows.specs.Chains.{version_of, child_of, node_in}
 use Rattle.record_rows.specs.Walks.{is_chunk}
 use Rattle.record_rows.specs.Words.{words_of}
-use Rattle.row_append.specs.Ends.{Chain, NodesIn, ChildrenOf, VersionsOf, owns, belongs, has_part, HasNone, EndsAt, IsHeaded, is_logged}
+use Rattle.row_append.specs.Ends.{NodesIn, ChildrenOf, VersionsOf, owns, belongs, has_part, HasNone, EndsAt, is_logged}
 use Rattle.row_append.specs.Tails.{word_number}
 use Rattle.row_append.specs.declared.tail.Tail.{Tail}
 use Rattle.row_append.proofs.EndLaws.{chunks_begin, nodes_end}
@@ -19,7 +18,7 @@ use Rattle.base_rows.specs.declared.lists.BaseEdge.{BaseEdge}
 use Rattle.base_rows.specs.declared.lists.BaseNode.{BaseNode}
 use Rattle.base_rows.specs.Lists.{IsOnce, IsNode, AreNodes}
 use Rattle.base_rows.specs.BaseRows.{owner_rows, edged_rows, ids_of}
-use Rattle.base_rows.specs.States.{tails_from, AreTails, AreRows, Noding, is_link}
+use Rattle.base_rows.specs.States.{tails_from, AreRows, Noding, is_link}
 use Rattle.base_rows.proofs.Passing.{NonePass, none_both, none_map, headed, map_more, get_or_any}
 use Rattle.base_rows.proofs.TailLists.{length-tails_from, tail_at, tail_set}
 use Rattle.base_rows.proofs.Begun.{begun}

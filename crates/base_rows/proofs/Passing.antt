@@ -3,7 +3,7 @@ use Rattle.std.proofs.Common.{◌≡◌, ℕ, zero, suc, arith, ◌+◌, ◌<◌
 use Rattle.std.specs.List.{list_any}
 use Rattle.std.proofs.lemmas.List.{take_more, map-append}
 use Rattle.op_model.specs.declared.Dataset.{Dataset}
-use Rattle.record_rows.specs.Rows.{Row, HeaderRow, SupervoxelRow, ChunkRow, NodeRow, LinkRow, EdgeRow}
+use Rattle.record_rows.specs.Rows.{Row, HeaderRow, SupervoxelRow, ChunkRow}
 use Rattle.record_rows.specs.Chains.{edge_at, version_of, child_of, node_in}
 use Rattle.row_append.specs.Ends.{Chain, EdgesOf, VersionsOf, ChildrenOf, NodesIn, belongs, HasNone, IsHeaded}
 

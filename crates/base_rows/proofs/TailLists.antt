@@ -1,5 +1,5 @@
 -- Lists of tails, and what is told by them with one more record.
-use Rattle.std.proofs.Common.{◌≡◌, ℕ, zero, suc, ◌+◌, ◌*◌, ◌<◌, ◌⊎◌, inl, inr, Bool, true, false, eqb, List, [], ◌∷◌, ◌++◌, length, get_or, set, refl, sym, ◌∙◌, ap, subst, arith, add-one}
+use Rattle.std.proofs.Common.{◌≡◌, ℕ, zero, suc, ◌+◌, ◌<◌, ◌⊎◌, inl, inr, false, eqb, List, [], ◌∷◌, ◌++◌, length, get_or, set, refl, sym, ◌∙◌, ap, subst, arith, add-one}
 use Rattle.std.proofs.lemmas.List.{get_or-set_same, get_or-set_other, length-set}
 use Rattle.std.proofs.lemmas.Bool.{cases_Bool, eqb-true, eqb-false}
 use Rattle.record_rows.specs.Rows.{Row}
@@ -57,14 +57,14 @@ pub tail_set : (chain : ℕ → Chain) (ids : List ℕ) (rows : List Row) (row :
 tail_set chain ids rows row old j new h are once l ends apart =
     tails_told chain ids rows row old (set old j new) h are (length-set old j new ∙ are.count)
     (λ i t m. elim (cases_Bool (eqb i j)) [
-    | inl e ↦
-      let q : i ≡ j = eqb-true i j e in
-      let g : get_or (set old j new) j t ≡ new = get_or-set_same old j new t (let c = are.count in omega (arith, c, l)) in
-      inl (subst (λ k. EndsAt (chain (get_or ids k 0)) (rows ++ row ∷ []) (word_number (get_or (set old j new) k t))) (sym q)
-      (subst (λ y. EndsAt (chain (get_or ids j 0)) (rows ++ row ∷ []) (word_number y)) (sym g) ends))
-    | inr f ↦
-      let a = eqb-false i j f in
-      inr (get_or-set_other old j i new t a, apart (get_or ids i 0) (λ q. a (once i j m l (sym q))))
+      | inl e ↦
+          let q : i ≡ j = eqb-true i j e in
+          let g : get_or (set old j new) j t ≡ new = get_or-set_same old j new t (let c = are.count in omega (arith, c, l)) in
+          inl (subst (λ k. EndsAt (chain (get_or ids k 0)) (rows ++ row ∷ []) (word_number (get_or (set old j new) k t))) (sym q)
+          (subst (λ y. EndsAt (chain (get_or ids j 0)) (rows ++ row ∷ []) (word_number y)) (sym g) ends))
+      | inr f ↦
+          let a = eqb-false i j f in
+          inr (get_or-set_other old j i new t a, apart (get_or ids i 0) (λ q. a (once i j m l (sym q))))
     ])
 
 -- where the chain of one of the ids ends

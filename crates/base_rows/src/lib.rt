@@ -1,5 +1,6 @@
 //! The records of a base and its first entry, put one behind the other.
 //!
+//! - `building`: all of them
 //! - `edges`: the edges
 //! - `links`: the links
 //! - `lists`: the records by their places
@@ -8,6 +9,7 @@
 //! - `tails`: where chains end
 #![tactic(auto)]
 
+mod building;
 mod edges;
 mod links;
 mod lists;
@@ -15,4 +17,5 @@ mod nodes;
 mod owners;
 mod tails;
 
-pub use lists::{BaseEdge, BaseLink, BaseNode};
+pub use building::base_words;
+pub use lists::{BaseEdge, BaseLink, BaseLists, BaseNode};

@@ -33,3 +33,16 @@ pub struct BaseLink {
     /// The place of the parent among the nodes.
     pub parent: u32,
 }
+
+/// The records between those of the supervoxels and that of the first entry.
+#[derive(Drop)]
+pub struct BaseLists {
+    /// The chunks, by their ids with segment 0.
+    pub chunks: Vec<NodeId>,
+    /// The edges.
+    pub edges: Vec<BaseEdge>,
+    /// The nodes.
+    pub nodes: Vec<BaseNode>,
+    /// The links.
+    pub links: Vec<BaseLink>,
+}

@@ -1,4 +1,4 @@
-use Rattle.std.proofs.Common.{rules, arith, ◌≡◌, ◌+◌, ◌++◌, ◌∷◌, [], length, map, take, sym, ◌∙◌, ap, subst, append_assoc, append-nil}
+use Rattle.std.proofs.Common.{arith, ◌++◌, length, map, take, sym, ◌∙◌, ap, subst, append_assoc, append-nil}
 use Rattle.record_rows.specs.Rows.{EdgeRow}
 use Rattle.record_rows.specs.Words.{words_of}
 use Rattle.base_rows.specs.declared.lists.BaseEdge.{BaseEdge}

@@ -1,4 +1,4 @@
-use Rattle.std.proofs.Common.{◌≡◌, ℕ, ◌+◌, ◌-◌, ◌*◌, List, [], ◌∷◌, ◌++◌, length, map, take}
+use Rattle.std.proofs.Common.{◌≡◌, ℕ, ◌+◌, ◌-◌, ◌*◌, List, ◌++◌, length, map, take}
 use Rattle.op_model.specs.declared.Dataset.{Dataset}
 use Rattle.record_rows.specs.Rows.{EdgeRow}
 use Rattle.record_rows.specs.Words.{words_of}

@@ -1,4 +1,4 @@
-use Rattle.std.proofs.Common.{refl, arith}
+use Rattle.std.proofs.Common.{refl}
 use Rattle.std.proofs.lemmas.Bool.{lt-ltb, le-ltb}
 use Rattle.base_rows.specs.States.{owner_place}
 use Rattle.base_rows.proofs.links.owner_place.Goals as goal

@@ -1,6 +1,4 @@
-use Rattle.std.proofs.Common.{rules, ◌≡◌, ◌++◌, get_or, sym, ◌∙◌, ap, refl}
-use Rattle.record_rows.specs.Chains.{has_id, is_node}
-use Rattle.record_rows.specs.Words.{place_from}
+use Rattle.std.proofs.Common.{rules, ◌≡◌, ◌++◌, get_or, sym, ◌∙◌, refl}
 use Rattle.row_append.specs.Ends.{ChildrenOf, VersionsOf}
 use Rattle.base_rows.specs.Lists.{link_of}
 use Rattle.base_rows.proofs.LinkSteps.{link_more}

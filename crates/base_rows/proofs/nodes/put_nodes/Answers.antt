@@ -1,4 +1,4 @@
-use Rattle.std.proofs.Common.{arith, ◌≡◌, ◌+◌, ◌++◌, ◌∷◌, [], length, map, take, sym, ◌∙◌, ap, subst, append_assoc, append-nil}
+use Rattle.std.proofs.Common.{arith, ◌++◌, ◌∷◌, [], length, map, take, sym, ◌∙◌, ap, subst, append_assoc, append-nil}
 use Rattle.record_rows.specs.Rows.{NodeRow}
 use Rattle.record_rows.specs.Words.{words_of}
 use Rattle.base_rows.specs.BaseRows.{edged_rows, noded_rows}

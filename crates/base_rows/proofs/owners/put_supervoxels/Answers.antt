@@ -1,4 +1,4 @@
-use Rattle.std.proofs.Common.{rules, arith, ◌≡◌, ◌+◌, ◌∷◌, ◌++◌, [], map, take, sym, ◌∙◌, ap, subst}
+use Rattle.std.proofs.Common.{arith, ◌∷◌, map, take, sym, ◌∙◌, ap}
 use Rattle.record_rows.specs.Rows.{HeaderRow, SupervoxelRow}
 use Rattle.record_rows.specs.Words.{words_of}
 use Rattle.row_append.specs.Ends.{EdgesOf, VersionsOf}

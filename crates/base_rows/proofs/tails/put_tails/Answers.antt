@@ -1,4 +1,4 @@
-use Rattle.std.proofs.Common.{◌≡◌, ◌+◌, ◌++◌, ◌∷◌, [], sym, ◌∙◌, ap, append_assoc, append-nil}
+use Rattle.std.proofs.Common.{◌+◌, ◌++◌, ◌∷◌, [], sym, ◌∙◌, ap, append_assoc, append-nil}
 use Rattle.base_rows.specs.States.{tails_from}
 use Rattle.base_rows.proofs.TailLists.{tails_more}
 use Rattle.base_rows.proofs.tails.put_tails.Goals as goal
