@@ -6,3 +6,7 @@ pub mod Leaves
 pub mod LayerNodes
 pub mod AllLayers
 pub mod Below
+pub mod Fresh
+pub mod LayerChunks
+pub mod PlacedNodes
+pub mod EdgeOrder

@@ -15,11 +15,15 @@
 //! - `rising`: the least leaves of a layer from those of the layer below.
 //! - `numbering`: the nodes of a layer by their chunks, and their numbers.
 //! - `layers`: all layers.
+//! - `chunking`: the chunks of all layers, and the nodes with the places of their chunks.
+//! - `edging`: the edges in the order of their records, with the places of their ends.
 //! - `laws`: what stands below a node.
 //! - `lists`: the lists of a base.
 //! - `errors`: why there is no octree.
 #![tactic(auto)]
 
+mod chunking;
+mod edging;
 mod errors;
 mod laws;
 mod layers;
@@ -31,6 +35,8 @@ mod rising;
 #[cfg(test)]
 mod tests;
 
+pub use chunking::{base_chunks, base_nodes, chunk_count};
+pub use edging::base_edges;
 pub use errors::BuildError;
 pub use laws::children_lead;
 pub use layers::{Layer, build_layers};

@@ -1,0 +1,79 @@
+//! The edges of a base in the order of their records, with the places of their ends.
+
+ghost use Rattle.std.specs.Prelude.{◌≡◌, ◌<◌, ◌^◌, ◌++◌, [], ◌∷◌, length, map, IfOk, IsPermutation};
+ghost use Rattle.std.specs.List.{All};
+ghost use Rattle.base_rows.specs.Lists.{IsPlaced};
+ghost use Rattle.op_model.specs.Edges.{put_edges};
+ghost use Rattle.op_model.specs.Labels.{edges};
+ghost use Rattle.op_model.specs.Valid.{IsBase, IsDataset, IsEdge, PairsDiffer};
+
+use crate::lists::{edges_of, ids_of};
+use crate::places::place_of;
+use base_rows::BaseEdge;
+use op_model::{Base, Dataset, Edge};
+use pcg_base::NoMemory;
+use std::alloc::Global;
+
+// an edge with the places of its ends
+fn base_edge(dataset: &Dataset, base: &Base, edge: &Edge) -> BaseEdge
+    requires base { IsBase dataset.now base.now }
+    requires size { length base.now.supervoxels < 2 ^ 32 }
+    requires edge { IsEdge base.now.supervoxels edge.now }
+    ensures is { result.edge ≡ edge.now }
+    ensures placed { IsPlaced base.now.supervoxels result }
+{
+    let ids = ids_of(base);
+    BaseEdge {
+        edge: *edge,
+        lesser: place_of(ids, edge.pair.a),
+        greater: place_of(ids, edge.pair.b),
+    }
+}
+
+// the edges of a base in its order, with the places of their ends
+fn in_order(alloc: Global, dataset: &Dataset, base: &Base) -> Result<Vec<BaseEdge>, NoMemory>
+    requires base { IsBase dataset.now base.now }
+    requires size { length base.now.supervoxels < 2 ^ 32 }
+    ensures edges { IfOk result (λ v. map (λ x. x.edge) v.items ≡ base.now.edges) }
+    ensures placed { IfOk result (λ v. All (IsPlaced base.now.supervoxels) v.items) }
+{
+    let mut list = Vec::new(alloc);
+    for edge in edges_of(base) {
+        let Ok(()) = list.push(base_edge(dataset, base, edge)) else {
+            return Err(NoMemory);
+        };
+    }
+    Ok(list)
+}
+
+// the same edges ascending by pairs, where they differ in them
+fn by_pair(edges: Vec<BaseEdge>) -> Vec<BaseEdge>
+    requires once { PairsDiffer (map (λ x. x.edge) edges.items) }
+    ensures moved { IsPermutation edges.items result.items }
+    ensures sorted { map (λ x. x.edge) result.items ≡ put_edges (map (λ x. x.edge) edges.items) [] }
+{
+    let mut list = edges;
+    list.sort_unstable_by_key(|x| (x.edge.pair.a.0, x.edge.pair.b.0));
+    list
+}
+
+/// The edges of a base ascending by pairs, the lesser end first: the order of their records. Each has the
+/// places of its ends in the base's list of supervoxels, of which there are fewer than 2^32. Time is n log n
+/// in the edges, with a search by halving for each end.
+///
+/// # Errors
+///
+/// `NoMemory` where there is none for the list.
+pub fn base_edges(
+    alloc: Global,
+    dataset: &Dataset,
+    base: &Base,
+) -> Result<Vec<BaseEdge>, NoMemory>
+    requires dataset { IsDataset dataset.now }
+    requires base { IsBase dataset.now base.now }
+    requires size { length base.now.supervoxels < 2 ^ 32 }
+    ensures edges { IfOk result (λ v. map (λ x. x.edge) v.items ≡ edges dataset.now base.now []) }
+    ensures placed { IfOk result (λ v. All (IsPlaced base.now.supervoxels) v.items) }
+{
+    Ok(by_pair(in_order(alloc, dataset, base)?))
+}
