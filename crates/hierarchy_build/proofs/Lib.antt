@@ -6,3 +6,6 @@ pub mod Leaves
 pub mod LayerNodes
 pub mod AllLayers
 pub mod Below
+pub mod Ranking
+pub mod Linked
+pub mod AllLinks

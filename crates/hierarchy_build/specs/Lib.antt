@@ -3,3 +3,4 @@ pub mod Pairs
 pub mod Numbers
 pub mod Layers
 pub mod Children
+pub mod Links

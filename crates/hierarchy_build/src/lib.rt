@@ -15,6 +15,7 @@
 //! - `rising`: the least leaves of a layer from those of the layer below.
 //! - `numbering`: the nodes of a layer by their chunks, and their numbers.
 //! - `layers`: all layers.
+//! - `linking`: the links of all nodes to their children.
 //! - `laws`: what stands below a node.
 //! - `lists`: the lists of a base.
 //! - `errors`: why there is no octree.
@@ -24,6 +25,7 @@ mod errors;
 mod laws;
 mod layers;
 mod levels;
+mod linking;
 mod lists;
 mod numbering;
 mod places;
@@ -35,6 +37,7 @@ pub use errors::BuildError;
 pub use laws::children_lead;
 pub use layers::{Layer, build_layers};
 pub use levels::{PlacedEdge, by_level, of_level, placed_edges};
+pub use linking::base_links;
 pub use numbering::{Made, made_nodes};
 pub use places::place_of;
 pub use rising::rise;
