@@ -10,3 +10,6 @@ pub mod Fresh
 pub mod LayerChunks
 pub mod PlacedNodes
 pub mod EdgeOrder
+pub mod Ranking
+pub mod Linked
+pub mod AllLinks

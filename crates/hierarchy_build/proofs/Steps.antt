@@ -85,17 +85,16 @@ owners_more d b layer firsts i done more p m =
     one true = refl
     one false = refl
 
--- a stable sort leaves the nodes of each chunk as they stood
-pub kept_order : (old new : List Owner) → ((x : Owner) → filter (λ y. not (is_lt (nat_cmp x.chunk y.chunk)) && not (is_lt (nat_cmp y.chunk x.chunk))) new
-    ≡ filter (λ y. not (is_lt (nat_cmp x.chunk y.chunk)) && not (is_lt (nat_cmp y.chunk x.chunk))) old)
-    → (c : ℕ) → filter (λ (o : Owner). eqb o.chunk c) new ≡ filter (λ o. eqb o.chunk c) old
-kept_order old new f c =
-    let x : Owner = record { chunk = c; least = 0 } in
-    let same : (λ (y : Owner). eqb y.chunk c) ≡ (λ y. not (is_lt (nat_cmp c y.chunk)) && not (is_lt (nat_cmp y.chunk c))) = λ i y. tie y.chunk i in
-    ap (λ t. filter t new) same ∙ (f x ∙ ap (λ t. filter t old) (sym same))
+-- a stable sort by a number leaves those of each number as they stood
+pub kept_order : {X : Type 0} (n : X → ℕ) (make : ℕ → X) → ((c : ℕ) → n (make c) ≡ c) → (old new : List X)
+    → ((x : X) → filter (λ y. not (is_lt (nat_cmp (n x) (n y))) && not (is_lt (nat_cmp (n y) (n x)))) new ≡ filter (λ y. not (is_lt (nat_cmp (n x) (n y))) && not (is_lt (nat_cmp (n y) (n x)))) old)
+    → (c : ℕ) → filter (λ x. eqb (n x) c) new ≡ filter (λ x. eqb (n x) c) old
+kept_order n make made old new f c =
+    let same : (λ y. eqb (n y) c) ≡ (λ y. not (is_lt (nat_cmp (n (make c)) (n y))) && not (is_lt (nat_cmp (n y) (n (make c))))) = λ i y. tie (n (make c)) (n y) (made c) i in
+    ap (λ t. filter t new) same ∙ (f (make c) ∙ ap (λ t. filter t old) (sym same))
   where
-    tie : (y : ℕ) → eqb y c ≡ (not (is_lt (nat_cmp c y)) && not (is_lt (nat_cmp y c)))
-    tie y = grind arith
+    tie : (k y : ℕ) → k ≡ c → eqb y c ≡ (not (is_lt (nat_cmp k y)) && not (is_lt (nat_cmp y k)))
+    tie k y e = grind arith
 
 pub power_range : (w : ℕ) → 1 ≤ w → (1 ≤ 1 * 2 ^ (56 - 3 * w) % 18446744073709551616) × (1 * 2 ^ (56 - 3 * w) % 18446744073709551616 ≤ 72057594037927936)
 power_range w h =

@@ -4,3 +4,4 @@ pub mod Numbers
 pub mod Layers
 pub mod Children
 pub mod Chunked
+pub mod Links

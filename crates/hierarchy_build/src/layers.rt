@@ -32,7 +32,7 @@ pub struct Layer {
 }
 
 // each place by itself
-fn places(alloc: Global, count: u32) -> Result<Vec<u32>, NoMemory>
+pub(crate) fn places(alloc: Global, count: u32) -> Result<Vec<u32>, NoMemory>
     ensures { IfOk result (λ v. v.items ≡ range_with_len 0 count) }
 {
     let mut list = Vec::new(alloc);

@@ -17,6 +17,7 @@
 //! - `layers`: all layers.
 //! - `chunking`: the chunks of all layers, and the nodes with the places of their chunks.
 //! - `edging`: the edges in the order of their records, with the places of their ends.
+//! - `linking`: the links of all nodes to their children.
 //! - `laws`: what stands below a node.
 //! - `lists`: the lists of a base.
 //! - `errors`: why there is no octree.
@@ -28,6 +29,7 @@ mod errors;
 mod laws;
 mod layers;
 mod levels;
+mod linking;
 mod lists;
 mod numbering;
 mod places;
@@ -41,6 +43,7 @@ pub use errors::BuildError;
 pub use laws::children_lead;
 pub use layers::{Layer, build_layers};
 pub use levels::{PlacedEdge, by_level, of_level, placed_edges};
+pub use linking::base_links;
 pub use numbering::{Made, made_nodes};
 pub use places::place_of;
 pub use rising::rise;

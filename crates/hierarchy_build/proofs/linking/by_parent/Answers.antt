@@ -1,0 +1,15 @@
+use Rattle.std.proofs.Common.{rules, refl}
+use Rattle.std.proofs.lemmas.List.Sorted.{answers_always, IsNonDecreasingBy-from_sort}
+use Rattle.base_rows.specs.declared.lists.BaseLink.{BaseLink}
+use Rattle.hierarchy_build.proofs.Steps.{kept_order}
+use Rattle.hierarchy_build.proofs.linking.by_parent.Goals as goal
+
+pub returns : goal.returns
+returns c = record {
+  moved = c.sort_by_key.ensures.permutation;
+  same = kept_order (λ (x : BaseLink). x.parent) (λ n. record { child = 0; parent = n }) (λ n. refl) c.args.links.items c.sort_by_key.new.self.items
+      (c.sort_by_key.ensures.stable (λ (x : BaseLink). x.parent) (answers_always _ _ _ (λ f a r g h. search rules)));
+  rising =
+      IsNonDecreasingBy-from_sort (λ (x : BaseLink). x.parent) c.sort_by_key.new.self.items
+      (c.in-Ok.ensures.sorted (λ x. x.parent) (answers_always _ _ _ (λ f a r g h. search rules)));
+}
