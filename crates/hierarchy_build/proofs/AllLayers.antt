@@ -19,15 +19,15 @@ use Rattle.layer_laws.specs.Building.{AreLeastLeaves}
 use Rattle.layer_laws.proofs.BuildLemmas.{first_leaves}
 use Rattle.hierarchy_build.specs.declared.levels.PlacedEdge.{PlacedEdge}
 use Rattle.hierarchy_build.specs.declared.layers.Layer.{Layer}
-use Rattle.hierarchy_build.specs.declared.errors.BuildError.{BuildError}
-use Rattle.hierarchy_build.specs.declared.errors.BuildError.TheVariants.{IdsSpent, NoMemory}
+use Rattle.hierarchy_build.specs.declared.errors.LayersError.{LayersError}
+use Rattle.hierarchy_build.specs.declared.errors.LayersError.TheVariants.{IdsSpent, NoMemory}
 use Rattle.hierarchy_build.specs.Places.{placed}
 use Rattle.hierarchy_build.specs.Pairs.{AreEdges}
 use Rattle.hierarchy_build.specs.Numbers.{OfSpent, LabelsFitIn}
 use Rattle.hierarchy_build.specs.Layers.{IsLayer, AreLayers, all_nodes, last_firsts}
 use Rattle.hierarchy_build.proofs.Placing.{place_at}
 
-pub of_spent : (P Q : ℕ → ℕ → Type 0) (e : BuildError) → ((l c : ℕ) → P l c → Q l c) → OfSpent P e → OfSpent Q e
+pub of_spent : (P Q : ℕ → ℕ → Type 0) (e : LayersError) → ((l c : ℕ) → P l c → Q l c) → OfSpent P e → OfSpent Q e
 unfolding OfSpent
 of_spent P Q (IdsSpent l c) f p = f l c p
 of_spent P Q NoMemory f p = tt

@@ -13,3 +13,6 @@ pub mod EdgeOrder
 pub mod Ranking
 pub mod Linked
 pub mod AllLinks
+pub mod Totals
+pub mod OwnersOnce
+pub mod WholeRows

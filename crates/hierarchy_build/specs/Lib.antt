@@ -5,3 +5,4 @@ pub mod Layers
 pub mod Children
 pub mod Chunked
 pub mod Links
+pub mod Built

@@ -14,8 +14,8 @@ use Rattle.record_rows.specs.LogRows.{layer_chunks}
 use Rattle.layer_laws.specs.Building.{at}
 use Rattle.hierarchy_build.specs.declared.numbering.Owner.{Owner}
 use Rattle.hierarchy_build.specs.declared.numbering.Made.{Made}
-use Rattle.hierarchy_build.specs.declared.errors.BuildError.{BuildError}
-use Rattle.hierarchy_build.specs.declared.errors.BuildError.TheVariants.{IdsSpent, NoMemory}
+use Rattle.hierarchy_build.specs.declared.errors.LayersError.{LayersError}
+use Rattle.hierarchy_build.specs.declared.errors.LayersError.TheVariants.{IdsSpent, NoMemory}
 
 -- the node whose least leaf stands at a place
 abbrev pub owner : Dataset → Base → ℕ → ℕ → Owner
@@ -79,6 +79,6 @@ abbrev pub LabelsFitIn : Dataset → Base → List Entry → ℕ → Type 0
 LabelsFitIn d b log layer = AllByRecursion (λ v. label d b log layer v < segments d.layout layer) b.supervoxels
 
 -- of an error that names a layer and a chunk the fact about them
-unfoldable pub OfSpent : (ℕ → ℕ → Type 0) → BuildError → Type 0
+unfoldable pub OfSpent : (ℕ → ℕ → Type 0) → LayersError → Type 0
 OfSpent P (IdsSpent layer c) = P layer c
 OfSpent P NoMemory = ⊤

@@ -13,7 +13,7 @@ ghost use Rattle.hierarchy_build.specs.Pairs.{AreEdges};
 ghost use Rattle.hierarchy_build.specs.Numbers.{LabelsFitIn, OfSpent, spent_in};
 ghost use Rattle.hierarchy_build.specs.Layers.{all_nodes, AreLayers, IsFirstSpent, IsLayer, last_firsts};
 
-use crate::errors::BuildError;
+use crate::errors::LayersError;
 use crate::levels::{PlacedEdge, by_level, placed_edges};
 use crate::lists::ids_of;
 use crate::numbering::{Made, made_nodes};
@@ -62,7 +62,7 @@ fn next_layer(
     edges: &[PlacedEdge],
     layer: u8,
     below: &[u32],
-) -> Result<Layer, BuildError>
+) -> Result<Layer, LayersError>
     requires dataset { IsDataset dataset.now }
     requires base { IsBase dataset.now base.now }
     requires size { length base.now.supervoxels < 2 ^ 32 }
@@ -76,7 +76,7 @@ fn next_layer(
     ensures spent { IfErr result (OfSpent (λ at c. (at ≡ layer) × ((now : ℕ) → spent_in dataset.now base.now (ingested dataset.now base.now now) layer ≡ Some c))) }
 {
     let Ok(firsts) = rise(alloc, edges, layer, below) else {
-        return Err(BuildError::NoMemory);
+        return Err(LayersError::NoMemory);
     };
     match made_nodes(alloc, dataset, base, layer, &firsts) {
         Ok(made) => Ok(Layer { firsts, made }),
@@ -91,7 +91,7 @@ fn layers_over(
     base: &Base,
     edges: &[PlacedEdge],
     start: &[u32],
-) -> Result<Vec<Layer>, BuildError>
+) -> Result<Vec<Layer>, LayersError>
     requires dataset { IsDataset dataset.now }
     requires base { IsBase dataset.now base.now }
     requires size { length base.now.supervoxels < 2 ^ 32 }
@@ -112,7 +112,7 @@ fn layers_over(
             Err(error) => return Err(error),
         };
         let Ok(()) = layers.push(next) else {
-            return Err(BuildError::NoMemory);
+            return Err(LayersError::NoMemory);
         };
     }
     Ok(layers)
@@ -129,7 +129,7 @@ fn layers_over(
 ///
 /// `IdsSpent` with the first chunk that has more nodes than its layer's ids have numbers, and
 /// `NoMemory` where there is none for the lists.
-pub fn build_layers(alloc: Global, dataset: &Dataset, base: &Base) -> Result<Vec<Layer>, BuildError>
+pub fn build_layers(alloc: Global, dataset: &Dataset, base: &Base) -> Result<Vec<Layer>, LayersError>
     requires dataset { IsDataset dataset.now }
     requires base { IsBase dataset.now base.now }
     requires size { length base.now.supervoxels < 2 ^ 32 }
@@ -140,11 +140,11 @@ pub fn build_layers(alloc: Global, dataset: &Dataset, base: &Base) -> Result<Vec
     ensures spent { IfErr result (OfSpent (λ at c. (now : ℕ) → IsFirstSpent dataset.now base.now (ingested dataset.now base.now now) at c)) }
 {
     let Ok(edges) = placed_edges(alloc, dataset, base) else {
-        return Err(BuildError::NoMemory);
+        return Err(LayersError::NoMemory);
     };
     let edges = by_level(edges);
     let Ok(start) = places(alloc, ids_of(base).len() as u32) else {
-        return Err(BuildError::NoMemory);
+        return Err(LayersError::NoMemory);
     };
     layers_over(alloc, dataset, base, &edges, &start)
 }

@@ -18,12 +18,16 @@
 //! - `chunking`: the chunks of all layers, and the nodes with the places of their chunks.
 //! - `edging`: the edges in the order of their records, with the places of their ends.
 //! - `linking`: the links of all nodes to their children.
+//! - `counting`: how many records there are.
+//! - `building`: the words of all records.
 //! - `laws`: what stands below a node.
 //! - `lists`: the lists of a base.
 //! - `errors`: why there is no octree.
 #![tactic(auto)]
 
+mod building;
 mod chunking;
+mod counting;
 mod edging;
 mod errors;
 mod laws;
@@ -37,9 +41,11 @@ mod rising;
 #[cfg(test)]
 mod tests;
 
+pub use building::build;
 pub use chunking::{base_chunks, base_nodes, chunk_count};
 pub use edging::base_edges;
-pub use errors::BuildError;
+pub use counting::records_of;
+pub use errors::{BuildError, LayersError};
 pub use laws::children_lead;
 pub use layers::{Layer, build_layers};
 pub use levels::{PlacedEdge, by_level, of_level, placed_edges};

@@ -12,7 +12,7 @@ ghost use Rattle.plain_hierarchy.specs.Ingest.{ingested};
 ghost use Rattle.layer_laws.specs.Building.{AreLeastLeaves};
 ghost use Rattle.hierarchy_build.specs.Numbers.{AreByChunk, IsOwn, LabelsFitIn, OfSpent, node_of, number_behind, numbered, overflow, owner_at, owners, spent_in, told, told_node};
 
-use crate::errors::BuildError;
+use crate::errors::LayersError;
 use crate::lists::ids_of;
 use chunk_geometry::Cell;
 use node_ids::{NodeId, Parts};
@@ -207,7 +207,7 @@ pub fn made_nodes(
     base: &Base,
     layer: u8,
     firsts: &[u32],
-) -> Result<Vec<Made>, BuildError>
+) -> Result<Vec<Made>, LayersError>
     requires dataset { IsDataset dataset.now }
     requires base { IsBase dataset.now base.now }
     requires layer { (2 ≤ layer) × (layer ≤ top dataset.now) }
@@ -224,16 +224,16 @@ pub fn made_nodes(
     ensures spent { IfErr result (OfSpent (λ at c. (at ≡ layer) × ((now : ℕ) → spent_in dataset.now base.now (ingested dataset.now base.now now) layer ≡ Some c))) }
 {
     let Ok(list) = owners(alloc, dataset, base, layer, firsts) else {
-        return Err(BuildError::NoMemory);
+        return Err(LayersError::NoMemory);
     };
     let Ok(list) = by_chunk(list) else {
-        return Err(BuildError::NoMemory);
+        return Err(LayersError::NoMemory);
     };
     if let Some(chunk) = overflow(segments(dataset, layer), &list) {
-        return Err(BuildError::IdsSpent { layer, chunk });
+        return Err(LayersError::IdsSpent { layer, chunk });
     }
     match numbered(alloc, &list) {
         Ok(made) => Ok(made),
-        Err(_) => Err(BuildError::NoMemory),
+        Err(_) => Err(LayersError::NoMemory),
     }
 }

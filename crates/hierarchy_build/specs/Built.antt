@@ -1,0 +1,35 @@
+-- The lists of a base's records, and why they aren't built.
+use Rattle.std.specs.Prelude.{◌≡◌, ℕ, ◌<◌, ◌++◌, List, [], map, ⊤}
+use Rattle.std.specs.List.{All}
+use Rattle.node_ids.specs.Ids.{parts_of}
+use Rattle.op_model.specs.declared.Dataset.{Dataset}
+use Rattle.op_model.specs.declared.Base.{Base}
+use Rattle.op_model.specs.Labels.{edges}
+use Rattle.op_model.specs.Legal.{LabelsFit}
+use Rattle.op_model.specs.Records.{records}
+use Rattle.record_rows.specs.LogRows.{chunks, new_links}
+use Rattle.base_rows.specs.declared.lists.BaseLists.{BaseLists}
+use Rattle.base_rows.specs.Lists.{AreNodes, IsPlaced, IsWithin, link_of}
+use Rattle.base_rows.specs.BaseRows.{ids_of}
+use Rattle.plain_hierarchy.specs.Ingest.{ingested}
+use Rattle.hierarchy_build.specs.declared.layers.Layer.{Layer}
+use Rattle.hierarchy_build.specs.declared.errors.BuildError.{BuildError}
+use Rattle.hierarchy_build.specs.declared.errors.BuildError.TheVariants.{IdsSpent, TooSmall, NoMemory}
+use Rattle.hierarchy_build.specs.Layers.{all_nodes, IsFirstSpent}
+
+-- these are the chunks, edges, nodes and links of the base's first entry, by their places
+pub record AreLists (d : Dataset) (b : Base) (ls : List Layer) (x : BaseLists) : Type 0 where
+  pub chunks_are : x.chunks.items ≡ chunks d b
+  pub edges_are : map (λ e. e.edge) x.edges.items ≡ edges d b []
+  pub placed : All (IsPlaced b.supervoxels) x.edges.items
+  pub nodes_are : AreNodes (chunks d b) x.nodes.items (all_nodes b ls)
+  pub links_are : (now : ℕ) → map (link_of (b.supervoxels ++ ids_of (all_nodes b ls)) (ids_of (all_nodes b ls))) x.links.items ≡ new_links d b (ingested d b now) 0
+  pub within : All (IsWithin (b.supervoxels ++ ids_of (all_nodes b ls)) (ids_of (all_nodes b ls))) x.links.items
+
+-- The first chunk with more nodes than its ids have numbers, by layer, x, y and z; else, where there is none, more records than the capacity.
+abbrev pub IsRefused : Dataset → Base → BuildError → Type 0
+IsRefused d b (IdsSpent layer x y z) =
+    (c : ℕ) × ((now : ℕ) → IsFirstSpent d b (ingested d b now) layer c) × (let p = parts_of d.layout c in (x ≡ p.x) × (y ≡ p.y) × (z ≡ p.z))
+IsRefused d b (TooSmall need given) =
+    ((now : ℕ) → LabelsFit d b (ingested d b now) × (need ≡ records d b (ingested d b now))) × (given ≡ d.capacity) × (given < need)
+IsRefused d b NoMemory = ⊤

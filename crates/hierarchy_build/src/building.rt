@@ -1,0 +1,125 @@
+//! The words of a base and its first entry.
+
+ghost use Rattle.std.specs.Prelude.{◌≡◌, ◌<◌, ◌≤◌, ◌-◌, ◌+◌, ◌*◌, ◌^◌, ℕ, length, min, IfOk, IfErr, OnOk};
+ghost use Rattle.op_model.specs.Chunks.{top};
+ghost use Rattle.op_model.specs.Legal.{LabelsFit};
+ghost use Rattle.op_model.specs.Records.{records};
+ghost use Rattle.op_model.specs.Valid.{IsBase, IsDataset};
+ghost use Rattle.record_rows.specs.Readings.{Image};
+ghost use Rattle.plain_hierarchy.specs.Ingest.{ingested};
+ghost use Rattle.hierarchy_build.specs.Numbers.{OfSpent};
+ghost use Rattle.hierarchy_build.specs.Layers.{all_nodes, IsFirstSpent};
+ghost use Rattle.hierarchy_build.specs.Links.{AreBuilt};
+ghost use Rattle.hierarchy_build.specs.Built.{AreLists, IsRefused};
+
+use crate::chunking::{base_chunks, base_nodes, chunk_count};
+use crate::counting::records_of;
+use crate::edging::base_edges;
+use crate::errors::{BuildError, LayersError};
+use crate::layers::{Layer, build_layers};
+use crate::linking::base_links;
+use crate::lists::ids_of;
+use base_rows::{BaseLists, base_words};
+use op_model::{Base, Dataset};
+use pcg_base::{NoMemory, VecWords};
+use std::alloc::Global;
+
+/// The greatest timestamp, in milliseconds.
+const LATEST: u64 = 4611686018427387903;
+
+// the records between the supervoxels and the first entry
+fn lists_of(
+    alloc: Global,
+    dataset: &Dataset,
+    base: &Base,
+    layers: &[Layer],
+) -> Result<BaseLists, NoMemory>
+    requires built { AreBuilt dataset.now base.now layers.now }
+    requires few { length base.now.supervoxels + length (all_nodes base.now layers.now) < 2 ^ 32 }
+    ensures { IfOk result (λ x. AreLists dataset.now base.now layers.now x) }
+{
+    Ok(BaseLists {
+        chunks: base_chunks(alloc, dataset, base, layers)?,
+        edges: base_edges(alloc, dataset, base)?,
+        nodes: base_nodes(alloc, dataset, base, layers)?,
+        links: base_links(alloc, base, layers)?,
+    })
+}
+
+// why the records aren't built where the layers aren't
+fn error_of(dataset: &Dataset, error: LayersError) -> BuildError
+    requires dataset { IsDataset dataset.now }
+    ensures { OfSpent (λ layer c. (b : Base) → ((now : ℕ) → IsFirstSpent dataset.now b (ingested dataset.now b now) layer c) → IsRefused dataset.now b result) error }
+{
+    match error {
+        LayersError::IdsSpent { layer, chunk } => {
+            let parts = dataset.layout.unpack(chunk);
+            BuildError::IdsSpent {
+                layer,
+                x: parts.x,
+                y: parts.y,
+                z: parts.z,
+            }
+        }
+        LayersError::NoMemory => BuildError::NoMemory,
+    }
+}
+
+/// The words of the log of a base's first entry, with room for all further records of the dataset's
+/// capacity. The base has fewer than 2^32 supervoxels. The entry's timestamp is `now` in
+/// milliseconds, or 2^62 - 1 where `now` is greater.
+///
+/// Time is n log n in supervoxels, edges and nodes, and linear in the layers times the supervoxels.
+///
+/// # Errors
+///
+/// `IdsSpent` exactly where a chunk has more nodes than its ids have numbers; else `TooSmall` exactly
+/// where more records are needed than the capacity; `NoMemory` where there is none for the work.
+pub fn build(
+    alloc: Global,
+    base: &Base,
+    dataset: &Dataset,
+    now: u64,
+) -> Result<VecWords, BuildError>
+    requires dataset { IsDataset dataset.now }
+    requires base { IsBase dataset.now base.now }
+    requires size { length base.now.supervoxels < 2 ^ 32 }
+    ensures image { IfOk result (λ w. Image dataset.now base.now (ingested dataset.now base.now (min now (2 ^ 62 - 1))) w.words) }
+    ensures room { IfOk result (λ w. 8 * dataset.now.capacity ≤ length w.words + w.spare) }
+    ensures refused { IfErr result (λ e. IsRefused dataset.now base.now e) }
+{
+    let layers = match build_layers(alloc, dataset, base) {
+        Ok(layers) => layers,
+        Err(error) => return Err(error_of(dataset, error)),
+    };
+    let need = records_of(base, &layers, chunk_count(dataset, base, &layers));
+    if need > dataset.capacity as u64 {
+        return Err(BuildError::TooSmall {
+            need,
+            given: dataset.capacity,
+        });
+    }
+    match words_of(alloc, dataset, base, &layers, now.min(LATEST)) {
+        Ok(words) => Ok(words),
+        Err(_) => Err(BuildError::NoMemory),
+    }
+}
+
+// the words of the log of the first entry, from its layers
+fn words_of(
+    alloc: Global,
+    dataset: &Dataset,
+    base: &Base,
+    layers: &[Layer],
+    at: u64,
+) -> Result<VecWords, NoMemory>
+    requires built { AreBuilt dataset.now base.now layers.now }
+    requires fit { (now : ℕ) → LabelsFit dataset.now base.now (ingested dataset.now base.now now) }
+    requires fits { (now : ℕ) → records dataset.now base.now (ingested dataset.now base.now now) ≤ dataset.now.capacity }
+    requires at { at < 2 ^ 62 }
+    ensures image { IfOk result (λ w. Image dataset.now base.now (ingested dataset.now base.now at) w.words) }
+    ensures room { IfOk result (λ w. 8 * dataset.now.capacity ≤ length w.words + w.spare) }
+{
+    let lists = lists_of(alloc, dataset, base, layers)?;
+    base_words(alloc, dataset, ids_of(base), &lists, at)
+}
