@@ -10,3 +10,4 @@ pub mod Fresh
 pub mod LayerChunks
 pub mod PlacedNodes
 pub mod EdgeOrder
+pub mod SampleNodes
