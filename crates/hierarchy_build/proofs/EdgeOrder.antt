@@ -1,5 +1,5 @@
 -- Edges that were sorted by their pairs, each pair once, are those that were put in their places one by one.
-use Rattle.std.proofs.Common.{◌≡◌, ℕ, zero, suc, ◌+◌, ◌<◌, ◌≤◌, Bool, true, false, cond, ◌||◌, ◌&&◌, eqb, ltb, List, [], ◌∷◌, ◌++◌, length, map, get_or, refl, sym, ◌∙◌, ap, ap₂, subst, inl, inr, ◌⊎◌, arith}
+use Rattle.std.proofs.Common.{◌≡◌, ℕ, zero, suc, ◌+◌, Bool, true, false, cond, ◌||◌, ◌&&◌, eqb, ltb, List, [], ◌∷◌, map, get_or, refl, sym, ◌∙◌, ap₂, subst, inl, inr, ◌⊎◌, arith}
 use Rattle.std.proofs.Common.{is_lt, nat_cmp}
 use Rattle.std.specs.Ordering.{ordering_then}
 use Rattle.std.specs.Prelude.{IsPermutation, IsSortedBy}
@@ -8,11 +8,10 @@ use Rattle.std.proofs.lemmas.Bool.{false≢true}
 use Rattle.std.proofs.lemmas.List.Elements.{All-from_recursion, recursion_from_All}
 use Rattle.std.proofs.lemmas.List.Sorted.{All-permutation, IsPermutation-sym, IsPermutation-map}
 use Rattle.std.proofs.lemmas.Map.Keys.{IsDistinct-IsPermutation}
-use Rattle.op_model.specs.declared.Pair.{Pair}
 use Rattle.op_model.specs.declared.Edge.{Edge}
 use Rattle.op_model.specs.Edges.{same_pair, pair_before, put_edge, put_edges}
 use Rattle.op_model.specs.Valid.{PairsDiffer}
-use Rattle.op_model.proofs.OrderLemmas.{After, Sorted, puts_sorted, before_trans, before_other}
+use Rattle.op_model.proofs.OrderLemmas.{Sorted, puts_sorted, before_trans, before_other}
 use Rattle.record_rows.proofs.DifferLemmas.{Differ, all_more}
 use Rattle.base_rows.specs.declared.lists.BaseEdge.{BaseEdge}
 

@@ -1,5 +1,5 @@
 -- Numbers that stand in runs, each run once.
-use Rattle.std.proofs.Common.{◌≡◌, ℕ, suc, ◌+◌, ◌-◌, ◌<◌, ◌≤◌, Bool, true, false, cond, eqb, List, [], ◌∷◌, ◌++◌, length, map, drop, get_or, refl, sym, ◌∙◌, ap, subst, arith, append-nil, append_assoc, length-append, eq-eqb}
+use Rattle.std.proofs.Common.{◌≡◌, ℕ, suc, ◌+◌, ◌<◌, ◌≤◌, Bool, true, false, cond, eqb, List, [], ◌∷◌, ◌++◌, length, drop, get_or, refl, sym, ◌∙◌, ap, arith, append-nil, append_assoc, eq-eqb}
 use Rattle.std.specs.List.{AllByRecursion, flat_map}
 use Rattle.std.proofs.lemmas.List.{drop_more}
 use Rattle.std.proofs.lemmas.Bool.{ne_eqb, eqb-true}
@@ -8,6 +8,10 @@ use Rattle.base_rows.specs.declared.lists.BaseNode.{BaseNode}
 use Rattle.hierarchy_build.specs.declared.numbering.Made.{Made}
 use Rattle.hierarchy_build.specs.Chunked.{fresh, chunks_behind, count_behind, base_node, nodes_behind}
 use Rattle.hierarchy_build.proofs.Steps.{none_left}
+
+-- where nothing is left
+pub behind_end : {X : Type 0} (done more whole : List X) → more ≡ [] → done ++ more ≡ whole → done ≡ whole
+behind_end done more whole e p = sym (append-nil done) ∙ (ap (λ xs. done ++ xs) (sym e) ∙ p)
 
 -- a run of one number, with one at least
 abbrev pub Run : ℕ → List ℕ → Type 0
@@ -93,7 +97,7 @@ chunks_more last ms i m done more whole l is p e =
 
 pub chunks_end : (last : ℕ) (ms : List Made) (i : ℕ) (done whole : List ℕ) → length ms ≤ i → done ++ chunks_behind last (drop i ms) ≡ whole → done ≡ whole
 unfolding fresh
-chunks_end last ms i done whole l p = sym (append-nil done) ∙ (ap (λ xs. done ++ chunks_behind last xs) (sym (none_left ms i l)) ∙ p)
+chunks_end last ms i done whole l p = behind_end done (chunks_behind last (drop i ms)) whole (ap (chunks_behind last) (none_left ms i l)) p
 
 -- one chunk behind the last one
 pub put_other : (last c : ℕ) (xs ys : List ℕ) (k : Bool) → k ≡ eqb c last → k ≡ false → ys ≡ xs ++ c ∷ [] → ys ≡ xs ++ fresh last (c ∷ [])
@@ -103,10 +107,6 @@ put_other last c xs ys k e f h = h ∙ ap (λ t. xs ++ cond t [] (c ∷ [])) (sy
 pub put_same : (last c : ℕ) (xs : List ℕ) (k : Bool) → k ≡ eqb c last → k ≡ true → xs ≡ xs ++ fresh last (c ∷ [])
 unfolding fresh
 put_same last c xs k e t = sym (append-nil xs) ∙ ap (λ s. xs ++ cond s [] (c ∷ [])) (sym t ∙ e)
-
-module _ {X : Type 0} where
-  pub behind_end : (done more whole : List X) → more ≡ [] → done ++ more ≡ whole → done ≡ whole
-  behind_end done more whole e p = sym (append-nil done) ∙ (ap (λ xs. done ++ xs) (sym e) ∙ p)
 
 -- one node more
 pub nodes_more : (ids : List ℕ) (last count : ℕ) (ms : List Made) (i : ℕ) (m : Made) (n : ℕ) (x : BaseNode) (done more whole : List BaseNode) → i < length ms → m ≡ get_or ms i m → n ≡ count_behind last count m.chunk
@@ -120,4 +120,4 @@ nodes_more ids last count ms i m n x done more whole l is e node p h =
 
 pub nodes_end : (ids : List ℕ) (last count : ℕ) (ms : List Made) (i : ℕ) (done whole : List BaseNode) → length ms ≤ i → done ++ nodes_behind ids last count (drop i ms) ≡ whole → done ≡ whole
 unfolding nodes_behind
-nodes_end ids last count ms i done whole l p = behind_end done _ whole (ap (nodes_behind ids last count) (none_left ms i l)) p
+nodes_end ids last count ms i done whole l p = behind_end done (nodes_behind ids last count (drop i ms)) whole (ap (nodes_behind ids last count) (none_left ms i l)) p

@@ -1,15 +1,13 @@
 -- The chunks of all layers are those that their nodes lie in, and they ascend.
-use Rattle.std.proofs.Common.{◌≡◌, ℕ, suc, ◌+◌, ◌-◌, ◌<◌, ◌≤◌, ◌^◌, Bool, true, ◌&&◌, eqb, List, [], ◌∷◌, ◌++◌, length, map, get_or, refl, sym, ◌∙◌, ap, subst, arith, eq-eqb}
-use Rattle.std.specs.List.{AllByRecursion, filter, flat_map}
+use Rattle.std.proofs.Common.{◌≡◌, ℕ, ◌+◌, ◌-◌, ◌<◌, ◌≤◌, ◌^◌, true, ◌&&◌, eqb, List, [], ◌∷◌, ◌++◌, length, map, refl, sym, ◌∙◌, ap, subst, arith, eq-eqb}
+use Rattle.std.specs.List.{AllByRecursion, flat_map}
 use Rattle.std.proofs.lemmas.Bool.{and_from}
 use Rattle.node_ids.specs.Ids.{id_of, id_over}
 use Rattle.op_model.specs.declared.Dataset.{Dataset}
 use Rattle.op_model.specs.declared.Base.{Base}
-use Rattle.op_model.specs.declared.Entry.{Entry}
 use Rattle.graph_model.specs.Lists.{has}
 use Rattle.op_model.specs.Chunks.{chunk, members, layers, layers_from, top}
-use Rattle.op_model.specs.Labels.{component, least, is_new, is_empty, new_among}
-use Rattle.op_model.specs.Operations.{ascending, first_entry}
+use Rattle.op_model.specs.Labels.{least, is_new, is_empty, new_among}
 use Rattle.op_model.specs.Valid.{IsDataset, IsBase, IsAscending, IsSupervoxel}
 use Rattle.graph_model.proofs.ListLemmas.{filter_has, has_none}
 use Rattle.op_model.proofs.LabelLemmas.{least_in, least_component, least_same}
@@ -26,11 +24,11 @@ use Rattle.layer_laws.proofs.PlaceLemmas.{at_one}
 use Rattle.hierarchy_build.specs.declared.numbering.Made.{Made}
 use Rattle.hierarchy_build.specs.declared.layers.Layer.{Layer}
 use Rattle.hierarchy_build.specs.Numbers.{node_of}
-use Rattle.hierarchy_build.specs.Layers.{IsLayer, AreLayers, all_nodes}
+use Rattle.hierarchy_build.specs.Layers.{IsLayer, AreLayers}
 use Rattle.hierarchy_build.specs.Chunked.{fresh, chunks_behind, all_chunks}
 use Rattle.hierarchy_build.proofs.Leaves.{map_twice}
 use Rattle.hierarchy_build.proofs.Grouping.{map_flat}
-use Rattle.hierarchy_build.proofs.Fresh.{Run, fresh_runs, fresh_few}
+use Rattle.hierarchy_build.proofs.Fresh.{Run, fresh_runs}
 
 pub differ_ascends : (xs : List ℕ) → Differ (λ x y. x < y) xs → IsAscending xs
 differ_ascends [] a = tt
@@ -47,10 +45,6 @@ few_between low high (x ∷ xs) l a d =
     let p = a.0 in
     let n = few_between (x + 1) high xs (omega (arith, p)) (all_more (λ y. ((low ≤ y) × (y < high)) × (x < y)) (λ y. (x + 1 ≤ y) × (y < high)) xs (λ y q. (omega (arith, q.1), q.0.1)) (all_both (λ y. (low ≤ y) × (y < high)) (λ y. x < y) xs a.1 d.0)) d.1 in
     omega (arith, n, p)
-
-run_of : (c y : ℕ) (ys : List ℕ) → AllByRecursion (λ z. z ≡ c) ys → has ys y ≡ true → Run c ys
-run_of c y [] a h = has_none y h
-run_of c y (z ∷ ys) a h = a
 
 module _ (d : Dataset) (b : Base) (valid : IsDataset d) (base : IsBase d b) where
   pub chunks_once : IsOnce (chunks d b)

@@ -16,3 +16,4 @@ pub mod AllLinks
 pub mod Totals
 pub mod OwnersOnce
 pub mod WholeRows
+pub mod SampleNodes

@@ -1,9 +1,8 @@
 -- The nodes of all layers stand with the places of their chunks.
-use Rattle.std.proofs.Common.{◌≡◌, ◌≢◌, ℕ, zero, suc, ◌+◌, ◌-◌, ◌<◌, ◌≤◌, ◌^◌, Bool, true, false, cond, eqb, List, [], ◌∷◌, ◌++◌, length, map, drop, get_or, Some, None, Option, refl, sym, ◌∙◌, ap, ap₂, subst, arith, length-append, append_assoc}
-use Rattle.std.specs.List.{AllByRecursion, All, flat_map, slice_get}
+use Rattle.std.proofs.Common.{◌≡◌, ℕ, zero, suc, ◌+◌, ◌-◌, ◌<◌, ◌≤◌, Bool, true, false, cond, eqb, List, [], ◌∷◌, ◌++◌, length, map, drop, get_or, Some, None, Option, refl, sym, ◌∙◌, ap, ap₂, subst, arith, length-append, append_assoc}
+use Rattle.std.specs.List.{AllByRecursion, slice_get}
 use Rattle.std.proofs.lemmas.Bool.{eqb-true, false≢true}
 use Rattle.std.proofs.lemmas.List.{length-map, drop_more}
-use Rattle.std.proofs.lemmas.List.Elements.{All-from_recursion, recursion_from_All}
 use Rattle.std.proofs.lemmas.Option.{same_Some}
 use Rattle.op_model.specs.declared.Dataset.{Dataset}
 use Rattle.op_model.specs.declared.Base.{Base}
@@ -15,11 +14,10 @@ use Rattle.record_rows.specs.Rows.{Node}
 use Rattle.record_rows.specs.LogRows.{chunks}
 use Rattle.base_rows.specs.declared.lists.BaseNode.{BaseNode}
 use Rattle.base_rows.specs.Lists.{IsNode, AreNodes}
-use Rattle.record_rows.proofs.DifferLemmas.{all_more}
 use Rattle.plain_hierarchy.specs.Ingest.{ingested}
 use Rattle.hierarchy_build.specs.declared.numbering.Made.{Made}
 use Rattle.hierarchy_build.specs.declared.layers.Layer.{Layer}
-use Rattle.hierarchy_build.specs.Numbers.{IsOwn, leaves_at, node_of, told, told_node}
+use Rattle.hierarchy_build.specs.Numbers.{leaves_at, node_of, told, told_node}
 use Rattle.hierarchy_build.specs.Layers.{IsLayer, AreLayers, all_nodes}
 use Rattle.hierarchy_build.specs.Chunked.{fresh, chunks_behind, all_chunks, base_node, nodes_behind, all_behind}
 use Rattle.hierarchy_build.proofs.Steps.{none_left}

@@ -41,12 +41,12 @@ fn chunks_in(made: &[Made]) -> u64
 }
 
 /// How many chunks of the layers from 2 to the top hold a supervoxel.
-pub fn chunk_count(_dataset: &Dataset, _base: &Base, layers: &[Layer]) -> u64
-    requires dataset { IsDataset _dataset.now }
-    requires base { IsBase _dataset.now _base.now }
-    requires layers { (now : ℕ) → AreLayers _dataset.now _base.now (ingested _dataset.now _base.now now) 2 layers.now }
-    requires count { length layers.now ≡ top _dataset.now - 1 }
-    ensures { result ≡ length (chunks _dataset.now _base.now) }
+pub fn chunk_count(dataset: &Dataset, base: &Base, layers: &[Layer]) -> u64
+    requires dataset { IsDataset dataset.now }
+    requires base { IsBase dataset.now base.now }
+    requires layers { (now : ℕ) → AreLayers dataset.now base.now (ingested dataset.now base.now now) 2 layers.now }
+    requires count { length layers.now ≡ top dataset.now - 1 }
+    ensures { result ≡ length (chunks dataset.now base.now) }
 {
     let mut count = 0;
     for layer in layers {
@@ -88,15 +88,15 @@ fn push_chunks(list: &mut Vec<NodeId>, made: &[Made]) -> Result<(), NoMemory>
 /// `NoMemory` where there is none for the list.
 pub fn base_chunks(
     alloc: Global,
-    _dataset: &Dataset,
-    _base: &Base,
+    dataset: &Dataset,
+    base: &Base,
     layers: &[Layer],
 ) -> Result<Vec<NodeId>, NoMemory>
-    requires dataset { IsDataset _dataset.now }
-    requires base { IsBase _dataset.now _base.now }
-    requires layers { (now : ℕ) → AreLayers _dataset.now _base.now (ingested _dataset.now _base.now now) 2 layers.now }
-    requires count { length layers.now ≡ top _dataset.now - 1 }
-    ensures { IfOk result (λ v. v.items ≡ chunks _dataset.now _base.now) }
+    requires dataset { IsDataset dataset.now }
+    requires base { IsBase dataset.now base.now }
+    requires layers { (now : ℕ) → AreLayers dataset.now base.now (ingested dataset.now base.now now) 2 layers.now }
+    requires count { length layers.now ≡ top dataset.now - 1 }
+    ensures { IfOk result (λ v. v.items ≡ chunks dataset.now base.now) }
 {
     let mut list = Vec::new(alloc);
     for layer in layers {

@@ -5,24 +5,24 @@ ghost use Rattle.std.specs.List.{All};
 ghost use Rattle.base_rows.specs.Lists.{IsPlaced};
 ghost use Rattle.op_model.specs.Edges.{put_edges};
 ghost use Rattle.op_model.specs.Labels.{edges};
-ghost use Rattle.op_model.specs.Valid.{IsBase, IsDataset, IsEdge, PairsDiffer};
+ghost use Rattle.op_model.specs.Valid.{IsAscending, IsBase, IsDataset, IsEdge, PairsDiffer};
 
 use crate::lists::{edges_of, ids_of};
 use crate::places::place_of;
 use base_rows::BaseEdge;
+use node_ids::NodeId;
 use op_model::{Base, Dataset, Edge};
 use pcg_base::NoMemory;
 use std::alloc::Global;
 
-// an edge with the places of its ends
-fn base_edge(dataset: &Dataset, base: &Base, edge: &Edge) -> BaseEdge
-    requires base { IsBase dataset.now base.now }
-    requires size { length base.now.supervoxels < 2 ^ 32 }
-    requires edge { IsEdge base.now.supervoxels edge.now }
+// an edge with the places of its ends in an ascending list
+fn base_edge(ids: &[NodeId], edge: &Edge) -> BaseEdge
+    requires ascending { IsAscending ids.now }
+    requires size { length ids.now < 2 ^ 32 }
+    requires edge { IsEdge ids.now edge.now }
     ensures is { result.edge ≡ edge.now }
-    ensures placed { IsPlaced base.now.supervoxels result }
+    ensures placed { IsPlaced ids.now result }
 {
-    let ids = ids_of(base);
     BaseEdge {
         edge: *edge,
         lesser: place_of(ids, edge.pair.a),
@@ -37,9 +37,10 @@ fn in_order(alloc: Global, dataset: &Dataset, base: &Base) -> Result<Vec<BaseEdg
     ensures edges { IfOk result (λ v. map (λ x. x.edge) v.items ≡ base.now.edges) }
     ensures placed { IfOk result (λ v. All (IsPlaced base.now.supervoxels) v.items) }
 {
+    let ids = ids_of(base);
     let mut list = Vec::new(alloc);
     for edge in edges_of(base) {
-        let Ok(()) = list.push(base_edge(dataset, base, edge)) else {
+        let Ok(()) = list.push(base_edge(ids, edge)) else {
             return Err(NoMemory);
         };
     }
@@ -64,11 +65,7 @@ fn by_pair(edges: Vec<BaseEdge>) -> Vec<BaseEdge>
 /// # Errors
 ///
 /// `NoMemory` where there is none for the list.
-pub fn base_edges(
-    alloc: Global,
-    dataset: &Dataset,
-    base: &Base,
-) -> Result<Vec<BaseEdge>, NoMemory>
+pub fn base_edges(alloc: Global, dataset: &Dataset, base: &Base) -> Result<Vec<BaseEdge>, NoMemory>
     requires dataset { IsDataset dataset.now }
     requires base { IsBase dataset.now base.now }
     requires size { length base.now.supervoxels < 2 ^ 32 }

@@ -10,6 +10,8 @@
 //! least leaf. So a layer is one list of places, and the next layer is that list led on through the
 //! components of the pairs that its edges give.
 //!
+//! [`base_chunks`], [`base_nodes`] and [`base_edges`] give the lists of which the base's first records are made.
+//!
 //! - `places`: the place of a supervoxel, by halving.
 //! - `levels`: the edges by places, and by the layer in which their ends come together.
 //! - `rising`: the least leaves of a layer from those of the layer below.

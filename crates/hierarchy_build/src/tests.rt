@@ -4,7 +4,10 @@ ghost use Rattle.std.specs.Prelude.{◌≡◌, ◌<◌, ◌+◌, ◌^◌, IfSome
 ghost use Rattle.op_model.specs.declared.Weight.TheVariants.{Affinity};
 ghost use Rattle.op_model.specs.Samples.{base, data_a};
 
-use crate::{Made, PlacedEdge, build_layers, placed_edges};
+use crate::{
+    Made, PlacedEdge, base_chunks, base_edges, base_nodes, build_layers, chunk_count, placed_edges,
+};
+use base_rows::{BaseEdge, BaseNode};
 use chunk_geometry::Grid;
 use node_ids::{Layout, NodeId};
 use op_model::{Base, Dataset, Edge, EdgeList, Ids, Pair, Weight};
@@ -127,6 +130,86 @@ fn sample_layers(rt: HostRuntime) {
         [
             made(216172782113783808, 1, 0),
             made(216172782113783808, 2, 3)
+        ]
+        .as_slice()
+    );
+}
+
+fn node(id: u64, least: NodeId, chunk: u32) -> BaseNode {
+    BaseNode {
+        id: NodeId(id),
+        least,
+        chunk,
+    }
+}
+
+fn base_edge(edge: Edge, lesser: u32, greater: u32) -> BaseEdge {
+    BaseEdge {
+        edge,
+        lesser,
+        greater,
+    }
+}
+
+#[test]
+fn sample_nodes(rt: HostRuntime) {
+    let alloc = rt.alloc();
+    let Some(dataset) = dataset() else {
+        panic!(rt; "a dataset")
+    };
+    let Some(base) = base(alloc) else {
+        panic!(rt; "memory")
+    };
+    let Ok(layers) = build_layers(alloc, &dataset, &base) else {
+        panic!(rt; "memory")
+    };
+    assert_eq!(rt; chunk_count(&dataset, &base, &layers), 3);
+    let Ok(chunks) = base_chunks(alloc, &dataset, &base, &layers) else {
+        panic!(rt; "memory")
+    };
+    assert_eq!(rt;
+        chunks.as_slice(),
+        [
+            NodeId(144115188075855872),
+            NodeId(144396663052566528),
+            NodeId(216172782113783808)
+        ]
+        .as_slice()
+    );
+    let Ok(nodes) = base_nodes(alloc, &dataset, &base, &layers) else {
+        panic!(rt; "memory")
+    };
+    assert_eq!(rt;
+        nodes.as_slice(),
+        [
+            node(144115188075855873, P, 0),
+            node(144396663052566529, R, 1),
+            node(144396663052566530, S, 1),
+            node(216172782113783809, P, 2),
+            node(216172782113783810, S, 2)
+        ]
+        .as_slice()
+    );
+}
+
+#[test]
+fn sample_edges(rt: HostRuntime) {
+    let alloc = rt.alloc();
+    let Some(dataset) = dataset() else {
+        panic!(rt; "a dataset")
+    };
+    let Some(base) = base(alloc) else {
+        panic!(rt; "memory")
+    };
+    let Ok(edges) = base_edges(alloc, &dataset, &base) else {
+        panic!(rt; "memory")
+    };
+    assert_eq!(rt;
+        edges.as_slice(),
+        [
+            base_edge(edge(P, Q, 10, true), 0, 1),
+            base_edge(edge(Q, R, 7, true), 1, 2),
+            base_edge(edge(R, S, 5, false), 2, 3)
         ]
         .as_slice()
     );

@@ -1,4 +1,4 @@
-use Rattle.std.proofs.Common.{ℕ, ◌+◌, ◌∙◌, ◌<◌, sym, subst, arith}
+use Rattle.std.proofs.Common.{ℕ, ◌+◌, ◌∙◌, sym, arith}
 use Rattle.hierarchy_build.proofs.Fresh.{count_more, count_end, count_low, count_some, nodes_more, nodes_end}
 use Rattle.hierarchy_build.proofs.chunking.push_nodes.Goals as goal
 
