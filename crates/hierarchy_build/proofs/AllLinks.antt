@@ -191,7 +191,7 @@ base_linked d b now ls links built a =
     let r = all_linked d b built.dataset built.base now ls [] ls 2 (range_with_len 0 (length b.supervoxels)) 0 0 links refl (omega arith) (omega (arith, c, two)) (built.layers now) refl (omega (arith, n)) (first_kids d b built.dataset built.base now ls) a in
     (r.0 ∙ ap (λ k. flat_map (λ layer. flat_map (links_of d b (ingested d b now) layer) (layer_nodes d b (ingested d b now) 0 layer)) (layers_from 2 k)) c, r.1)
 
-layer_at : (d : Dataset) (b : Base) (now layer : ℕ) (ls : List Layer) (i : ℕ) (e : Layer) → AreLayers d b (ingested d b now) layer ls → i < length ls → IsLayer d b (ingested d b now) (layer + i) (get_or ls i e)
+pub layer_at : (d : Dataset) (b : Base) (now layer : ℕ) (ls : List Layer) (i : ℕ) (e : Layer) → AreLayers d b (ingested d b now) layer ls → i < length ls → IsLayer d b (ingested d b now) (layer + i) (get_or ls i e)
 layer_at d b now layer [] i e a l = absurd (omega arith)
 layer_at d b now layer (x ∷ ls) zero e a l = let z : layer ≡ layer + 0 = omega arith in subst (λ k. IsLayer d b (ingested d b now) k x) z a.0
 layer_at d b now layer (x ∷ ls) (suc i) e a l =

@@ -9,3 +9,5 @@ pub mod Below
 pub mod Ranking
 pub mod Linked
 pub mod AllLinks
+pub mod Totals
+pub mod OwnersOnce

@@ -16,11 +16,13 @@
 //! - `numbering`: the nodes of a layer by their chunks, and their numbers.
 //! - `layers`: all layers.
 //! - `linking`: the links of all nodes to their children.
+//! - `counting`: how many records the base and its first entry take.
 //! - `laws`: what stands below a node.
 //! - `lists`: the lists of a base.
 //! - `errors`: why there is no octree.
 #![tactic(auto)]
 
+mod counting;
 mod errors;
 mod laws;
 mod layers;
@@ -33,6 +35,7 @@ mod rising;
 #[cfg(test)]
 mod tests;
 
+pub use counting::records_of;
 pub use errors::BuildError;
 pub use laws::children_lead;
 pub use layers::{Layer, build_layers};

@@ -4,7 +4,8 @@ ghost use Rattle.std.specs.Prelude.{◌≡◌, ◌<◌, ◌+◌, ◌^◌, IfSome
 ghost use Rattle.op_model.specs.declared.Weight.TheVariants.{Affinity};
 ghost use Rattle.op_model.specs.Samples.{base, data_a};
 
-use crate::{Made, PlacedEdge, build_layers, placed_edges};
+use crate::{Made, PlacedEdge, base_links, build_layers, placed_edges, records_of};
+use base_rows::BaseLink;
 use chunk_geometry::Grid;
 use node_ids::{Layout, NodeId};
 use op_model::{Base, Dataset, Edge, EdgeList, Ids, Pair, Weight};
@@ -127,6 +128,42 @@ fn sample_layers(rt: HostRuntime) {
         [
             made(216172782113783808, 1, 0),
             made(216172782113783808, 2, 3)
+        ]
+        .as_slice()
+    );
+}
+
+fn link(child: u32, parent: u32) -> BaseLink {
+    BaseLink { child, parent }
+}
+
+#[test]
+fn sample_links(rt: HostRuntime) {
+    let alloc = rt.alloc();
+    let Some(dataset) = dataset() else {
+        panic!(rt; "a dataset")
+    };
+    let Some(base) = base(alloc) else {
+        panic!(rt; "memory")
+    };
+    let Ok(layers) = build_layers(alloc, &dataset, &base) else {
+        panic!(rt; "two layers")
+    };
+    let count = records_of(&base, &layers, 3);
+    assert!(rt; count == 24);
+    let Ok(links) = base_links(alloc, &base, &layers) else {
+        panic!(rt; "memory")
+    };
+    assert_eq!(rt;
+        links.as_slice(),
+        [
+            link(0, 0),
+            link(1, 0),
+            link(2, 1),
+            link(3, 2),
+            link(4, 3),
+            link(5, 3),
+            link(6, 4)
         ]
         .as_slice()
     );
