@@ -17,7 +17,8 @@ use op_model::Base;
 // how many nodes all layers have together
 fn node_count(layers: &[Layer]) -> u64
     requires few { sum_by (λ l. length l.made.items) layers.now < 2 ^ 40 }
-    ensures { result ≡ sum_by (λ l. length l.made.items) layers.now }
+    ensures few { result < 2 ^ 40 }
+    ensures is { result ≡ sum_by (λ l. length l.made.items) layers.now }
 {
     let mut count = 0;
     for layer in layers {

@@ -20,7 +20,7 @@
 //! - `chunking`: the chunks of all layers, and the nodes with the places of their chunks.
 //! - `edging`: the edges in the order of their records, with the places of their ends.
 //! - `linking`: the links of all nodes to their children.
-//! - `counting`: how many records there are.
+//! - `counting`: how many records the base and its first entry take.
 //! - `building`: the words of all records.
 //! - `laws`: what stands below a node.
 //! - `lists`: the lists of a base.
@@ -45,8 +45,8 @@ mod tests;
 
 pub use building::build;
 pub use chunking::{base_chunks, base_nodes, chunk_count};
-pub use edging::base_edges;
 pub use counting::records_of;
+pub use edging::base_edges;
 pub use errors::{BuildError, LayersError};
 pub use laws::children_lead;
 pub use layers::{Layer, build_layers};

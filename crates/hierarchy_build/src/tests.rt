@@ -5,12 +5,14 @@ ghost use Rattle.op_model.specs.declared.Weight.TheVariants.{Affinity};
 ghost use Rattle.op_model.specs.Samples.{base, data_a};
 
 use crate::{
-    Made, PlacedEdge, base_chunks, base_edges, base_nodes, build_layers, chunk_count, placed_edges,
+    BuildError, Made, PlacedEdge, base_chunks, base_edges, base_links, base_nodes, build,
+    build_layers, chunk_count, placed_edges, records_of,
 };
-use base_rows::{BaseEdge, BaseNode};
+use base_rows::{BaseEdge, BaseLink, BaseNode};
 use chunk_geometry::Grid;
 use node_ids::{Layout, NodeId};
 use op_model::{Base, Dataset, Edge, EdgeList, Ids, Pair, Weight};
+use pcg_base::{VecWords, Words};
 use std::alloc::Global;
 
 const P: NodeId = NodeId(72057594037927937);
@@ -213,4 +215,122 @@ fn sample_edges(rt: HostRuntime) {
         ]
         .as_slice()
     );
+}
+
+fn link(child: u32, parent: u32) -> BaseLink {
+    BaseLink { child, parent }
+}
+
+#[test]
+fn sample_links(rt: HostRuntime) {
+    let alloc = rt.alloc();
+    let Some(dataset) = dataset() else {
+        panic!(rt; "a dataset")
+    };
+    let Some(base) = base(alloc) else {
+        panic!(rt; "memory")
+    };
+    let Ok(layers) = build_layers(alloc, &dataset, &base) else {
+        panic!(rt; "two layers")
+    };
+    let count = records_of(&base, &layers, 3);
+    assert!(rt; count == 24);
+    let Ok(links) = base_links(alloc, &base, &layers) else {
+        panic!(rt; "memory")
+    };
+    assert_eq!(rt;
+        links.as_slice(),
+        [
+            link(0, 0),
+            link(1, 0),
+            link(2, 1),
+            link(3, 2),
+            link(4, 3),
+            link(5, 3),
+            link(6, 4)
+        ]
+        .as_slice()
+    );
+}
+
+/// Whether these are the words of the record at a place.
+fn holds(w: &mut VecWords, place: u32, row: [u64; 8]) -> bool {
+    for k in 0..8 {
+        let at = 8 * place as u64 + k;
+        if at >= w.len() {
+            return false;
+        }
+        if w.word(at) != row[k as usize] {
+            return false;
+        }
+    }
+    true
+}
+
+/// Whether these are the words of all records.
+fn are(w: &mut VecWords, want: &[[u64; 8]; 24]) -> bool {
+    for place in 0..24 {
+        if !holds(w, place, want[place as usize]) {
+            return false;
+        }
+    }
+    w.len() == 192
+}
+
+#[test]
+fn sample_words(rt: HostRuntime) {
+    let alloc = rt.alloc();
+    let Some(dataset) = dataset() else {
+        panic!(rt; "a dataset")
+    };
+    let Some(base) = base(alloc) else {
+        panic!(rt; "memory")
+    };
+    let Ok(mut w) = build(alloc, &base, &dataset, 1000) else {
+        panic!(rt; "words")
+    };
+    // The records as the table of their words has them, one a line.
+    let want = [
+        [2049, 1099512676354, 12884901892, 1, 0, 0, 0, 0],
+        [2, 72057594037927937, 0, 0, 8, 16, 0, 0],
+        [2, 72057594037927938, 0, 0, 8, 17, 0, 0],
+        [2, 72339069014638593, 0, 0, 9, 18, 0, 0],
+        [2, 72339069014638594, 0, 0, 10, 19, 0, 0],
+        [3, 144115188075855872, 0, 0, 11, 0, 0, 0],
+        [3, 144396663052566528, 0, 0, 12, 0, 0, 0],
+        [3, 216172782113783808, 0, 0, 14, 0, 0, 0],
+        [262, 72057594037927937, 72057594037927938, 10, 0, 0, 9, 0],
+        [262, 72057594037927938, 72339069014638593, 7, 0, 0, 10, 0],
+        [6, 72339069014638593, 72339069014638594, 5, 0, 0, 0, 0],
+        [4, 144115188075855873, 72057594037927937, 0, 16, 20, 0, 0],
+        [4, 144396663052566529, 72339069014638593, 0, 18, 21, 0, 13],
+        [4, 144396663052566530, 72339069014638594, 0, 19, 22, 0, 0],
+        [4, 216172782113783809, 72057594037927937, 0, 20, 0, 0, 15],
+        [4, 216172782113783810, 72339069014638594, 0, 22, 0, 0, 0],
+        [5, 72057594037927937, 1, 0, 11, 17, 0, 0],
+        [5, 72057594037927938, 2, 0, 11, 0, 0, 0],
+        [5, 72339069014638593, 3, 0, 12, 0, 0, 0],
+        [5, 72339069014638594, 4, 0, 13, 0, 0, 0],
+        [5, 144115188075855873, 11, 0, 14, 21, 0, 0],
+        [5, 144396663052566529, 12, 0, 14, 0, 0, 0],
+        [5, 144396663052566530, 13, 0, 15, 0, 0, 0],
+        [9, 1000, 0, 0, 0, 0, 0, 0],
+    ];
+    assert!(rt; are(&mut w, &want));
+}
+
+#[test]
+fn a_record_too_few(rt: HostRuntime) {
+    let alloc = rt.alloc();
+    let Some(mut dataset) = dataset() else {
+        panic!(rt; "a dataset")
+    };
+    dataset.capacity = 23;
+    let Some(base) = base(alloc) else {
+        panic!(rt; "memory")
+    };
+    let Err(error) = build(alloc, &base, &dataset, 1000) else {
+        panic!(rt; "no words")
+    };
+    assert_eq!(rt; error, BuildError::TooSmall { need: 24, given: 23 });
 }
