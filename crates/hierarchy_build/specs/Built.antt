@@ -15,6 +15,8 @@ use Rattle.plain_hierarchy.specs.Ingest.{ingested}
 use Rattle.hierarchy_build.specs.declared.layers.Layer.{Layer}
 use Rattle.hierarchy_build.specs.declared.errors.BuildError.{BuildError}
 use Rattle.hierarchy_build.specs.declared.errors.BuildError.TheVariants.{IdsSpent, TooSmall, NoMemory}
+use Rattle.hierarchy_build.specs.declared.errors.LayersError.{LayersError}
+use Rattle.hierarchy_build.specs.declared.errors.LayersError.TheVariants as layers
 use Rattle.hierarchy_build.specs.Layers.{all_nodes, IsFirstSpent}
 
 -- these are the chunks, edges, nodes and links of the base's first entry, by their places
@@ -25,6 +27,11 @@ pub record AreLists (d : Dataset) (b : Base) (ls : List Layer) (x : BaseLists) :
   pub nodes_are : AreNodes (chunks d b) x.nodes.items (all_nodes b ls)
   pub links_are : (now : ℕ) → map (link_of (b.supervoxels ++ ids_of (all_nodes b ls)) (ids_of (all_nodes b ls))) x.links.items ≡ new_links d b (ingested d b now) 0
   pub within : All (IsWithin (b.supervoxels ++ ids_of (all_nodes b ls)) (ids_of (all_nodes b ls))) x.links.items
+
+-- the chunk that was named by its id is named by its coordinates
+abbrev pub Tells : Dataset → LayersError → BuildError → Type 0
+Tells d (layers.IdsSpent layer c) result = let p = parts_of d.layout c in result ≡ IdsSpent layer p.x p.y p.z
+Tells d layers.NoMemory result = result ≡ NoMemory
 
 -- The first chunk with more nodes than its ids have numbers, by layer, x, y and z; else, where there is none, more records than the capacity.
 abbrev pub IsRefused : Dataset → Base → BuildError → Type 0

@@ -7,10 +7,9 @@ ghost use Rattle.op_model.specs.Records.{records};
 ghost use Rattle.op_model.specs.Valid.{IsBase, IsDataset};
 ghost use Rattle.record_rows.specs.Readings.{Image};
 ghost use Rattle.plain_hierarchy.specs.Ingest.{ingested};
-ghost use Rattle.hierarchy_build.specs.Numbers.{OfSpent};
-ghost use Rattle.hierarchy_build.specs.Layers.{all_nodes, IsFirstSpent};
+ghost use Rattle.hierarchy_build.specs.Layers.{all_nodes};
 ghost use Rattle.hierarchy_build.specs.Links.{AreBuilt};
-ghost use Rattle.hierarchy_build.specs.Built.{AreLists, IsRefused};
+ghost use Rattle.hierarchy_build.specs.Built.{AreLists, IsRefused, Tells};
 
 use crate::chunking::{base_chunks, base_nodes, chunk_count};
 use crate::counting::records_of;
@@ -48,8 +47,7 @@ fn lists_of(
 
 // why the records aren't built where the layers aren't
 fn error_of(dataset: &Dataset, error: LayersError) -> BuildError
-    requires dataset { IsDataset dataset.now }
-    ensures { OfSpent (λ layer c. (b : Base) → ((now : ℕ) → IsFirstSpent dataset.now b (ingested dataset.now b now) layer c) → IsRefused dataset.now b result) error }
+    ensures { Tells dataset.now error result }
 {
     match error {
         LayersError::IdsSpent { layer, chunk } => {
@@ -115,6 +113,7 @@ fn words_of(
 ) -> Result<VecWords, NoMemory>
     requires built { AreBuilt dataset.now base.now layers.now }
     requires fit { (now : ℕ) → LabelsFit dataset.now base.now (ingested dataset.now base.now now) }
+    requires few { length base.now.supervoxels + length (all_nodes base.now layers.now) < 2 ^ 32 }
     requires fits { (now : ℕ) → records dataset.now base.now (ingested dataset.now base.now now) ≤ dataset.now.capacity }
     requires at { at < 2 ^ 62 }
     ensures image { IfOk result (λ w. Image dataset.now base.now (ingested dataset.now base.now at) w.words) }

@@ -47,7 +47,7 @@ fn root_count(layers: &[Layer]) -> u64
 pub fn records_of(base: &Base, layers: &[Layer], chunk_count: u64) -> u64
     requires built { (d : Dataset) × AreBuilt d base.now layers.now }
     requires size { length base.now.supervoxels < 2 ^ 32 }
-    requires chunks { chunk_count < 2 ^ 62 }
+    requires chunks { chunk_count ≤ 2 ^ 62 }
     ensures is { (d : Dataset) (now : ℕ) → AreBuilt d base.now layers.now → chunk_count ≡ length (chunks d base.now) → result ≡ records d base.now (ingested d base.now now) }
     ensures all { length base.now.supervoxels + length (all_nodes base.now layers.now) ≤ result }
 {

@@ -129,7 +129,11 @@ fn layers_over(
 ///
 /// `IdsSpent` with the first chunk that has more nodes than its layer's ids have numbers, and
 /// `NoMemory` where there is none for the lists.
-pub fn build_layers(alloc: Global, dataset: &Dataset, base: &Base) -> Result<Vec<Layer>, LayersError>
+pub fn build_layers(
+    alloc: Global,
+    dataset: &Dataset,
+    base: &Base,
+) -> Result<Vec<Layer>, LayersError>
     requires dataset { IsDataset dataset.now }
     requires base { IsBase dataset.now base.now }
     requires size { length base.now.supervoxels < 2 ^ 32 }

@@ -332,5 +332,11 @@ fn a_record_too_few(rt: HostRuntime) {
     let Err(error) = build(alloc, &base, &dataset, 1000) else {
         panic!(rt; "no words")
     };
-    assert_eq!(rt; error, BuildError::TooSmall { need: 24, given: 23 });
+    assert_eq!(rt;
+        error,
+        BuildError::TooSmall {
+            need: 24,
+            given: 23
+        }
+    );
 }
