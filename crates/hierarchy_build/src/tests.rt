@@ -40,6 +40,16 @@ fn dataset() -> Option<Dataset>
     })
 }
 
+fn small() -> Option<Dataset>
+    ensures { IfSome result (λ d. d ≡ record data_a { capacity = 23 }) }
+{
+    let dataset = dataset()?;
+    Some(Dataset {
+        capacity: 23,
+        ..dataset
+    })
+}
+
 fn edge(a: NodeId, b: NodeId, affinity: u32, active: bool) -> Edge
     ensures { result ≡ record { pair = record { a = a; b = b }; weight = Affinity affinity; active = active } }
 {
@@ -322,10 +332,9 @@ fn sample_words(rt: HostRuntime) {
 #[test]
 fn a_record_too_few(rt: HostRuntime) {
     let alloc = rt.alloc();
-    let Some(mut dataset) = dataset() else {
+    let Some(dataset) = small() else {
         panic!(rt; "a dataset")
     };
-    dataset.capacity = 23;
     let Some(base) = base(alloc) else {
         panic!(rt; "memory")
     };
