@@ -1,5 +1,5 @@
 -- The walk over the nodes of a chunk that the first entry made.
-use Rattle.std.proofs.Common.{◌≡◌, ℕ, zero, suc, ◌+◌, ◌-◌, ◌^◌, ◌<◌, true, false, cond, ◌&&◌, eqb, List, [], ◌∷◌, ◌++◌, length, map, Option, Some, None, IfSome, Ok, refl, sym, ◌∙◌, ap, subst, eq-eqb, arith}
+use Rattle.std.proofs.Common.{◌≡◌, ℕ, zero, suc, ◌+◌, ◌-◌, ◌^◌, ◌<◌, Bool, true, false, cond, ◌&&◌, eqb, List, [], ◌∷◌, ◌++◌, length, map, Option, Some, None, IfSome, Ok, refl, sym, ◌∙◌, ap, subst, eq-eqb, arith}
 use Rattle.std.specs.List.{slice_get, filter_map, cons_option, list_any}
 use Rattle.std.proofs.lemmas.Bool.{cond-true, cond-false, ne_eqb, and_from, or_left, or_right, le-leb, eqb-true, false≢true}
 use Rattle.std.specs.Option.{IsSome}
@@ -94,16 +94,36 @@ fewer n p l next None b s = omega arith
 fewer n p l None (Some q) b s = cc
 fewer n p l (Some r) (Some q) b s = let e : r ≡ q = same_Some _ _ s in let k : p < r = b in omega arith
 
+-- A search of a log's records by a test that the header doesn't pass.
+module _ (d : Dataset) (b : Base) (log : List Entry) (test : Row → Bool) (skips : test (HeaderRow d (length b.supervoxels) (length (chunks d b))) ≡ false) where
+  -- where it ends stands a record that passes
+  pub stands_there : (p : ℕ) → first_place test (rows_of d b log) ≡ Some p → (row : Row) × (slice_get (rows_of d b log) p ≡ Some row) × (test row ≡ true)
+  stands_there p h = from (Some p) (subst (LeadsTo test (rows_of d b log)) h (first_leads test (rows_of d b log) (HeaderRow d (length b.supervoxels) (length (chunks d b))) (headed d b log) skips)) p refl
+    where
+      from : (at : Option ℕ) → LeadsTo test (rows_of d b log) at → (q : ℕ) → at ≡ Some q → (row : Row) × (slice_get (rows_of d b log) q ≡ Some row) × (test row ≡ true)
+      from None l q e = cc
+      from (Some r) (low, row, g, t) q e = (row, subst (λ x. slice_get (rows_of d b log) x ≡ Some row) (same_Some _ _ e) g, t)
+
+  -- where it ends nowhere, no record passes
+  pub none_passes : first_place test (rows_of d b log) ≡ None → list_any test (rows_of d b log) ≡ true → ⊥
+  unfolding first_place place_of
+  none_passes h a = let f = found_from test (rows_of d b log) 0 (rows_of d b log) refl a in at_zero (place_from test 0 (rows_of d b log)) h f.0 f.1 f.2
+    where
+      at_zero : (n : ℕ) → cond (eqb n 0) None (Some n) ≡ None → (row : Row) → slice_get (rows_of d b log) n ≡ Some row → test row ≡ true → ⊥
+      at_zero zero e row s t = let q : Some row ≡ Some (HeaderRow d (length b.supervoxels) (length (chunks d b))) = sym s ∙ headed d b log in let w : row ≡ HeaderRow d (length b.supervoxels) (length (chunks d b)) = cc in false≢true (sym skips ∙ (ap test (sym w) ∙ t))
+      at_zero (suc n) e row s t =
+          let q : Some (suc n) ≡ None = sym (cond-false (eqb (suc n) 0) None (Some (suc n)) (ne_eqb (suc n) 0 (λ y. absurd (let w : suc n ≡ 0 = y in omega arith)))) ∙ e in
+          false≢true (subst IsSome q refl)
+
 module _ (d : Dataset) (b : Base) (log : List Entry) (k : ℕ) where
   -- where the search for a chunk ends there is its record
   pub chunk_at : (p : ℕ) → first_place (is_chunk k) (rows_of d b log) ≡ Some p → HoldsChunk d b log p k
   unfolding is_chunk
-  chunk_at p h = from (Some p) (subst (LeadsTo (is_chunk k) (rows_of d b log)) h (first_leads (is_chunk k) (rows_of d b log) (HeaderRow d (length b.supervoxels) (length (chunks d b))) (headed d b log) refl)) p refl
+  chunk_at p h = let s = stands_there d b log (is_chunk k) refl p h in from s.0 s.1 s.2
     where
-      from : (at : Option ℕ) → LeadsTo (is_chunk k) (rows_of d b log) at → (q : ℕ) → at ≡ Some q → HoldsChunk d b log q k
-      from None l q e = cc
-      from (Some r) (low, ChunkRow c, g, t) q e = subst (λ x. HoldsChunk d b log x k) (same_Some _ _ e) (subst (λ c. slice_get (rows_of d b log) r ≡ Some (ChunkRow c)) (eqb-true c k t) g)
-      from (Some r) (low, row, g, t) q e = absurd (false≢true t)
+      from : (row : Row) → slice_get (rows_of d b log) p ≡ Some row → is_chunk k row ≡ true → HoldsChunk d b log p k
+      from (ChunkRow c) g t = subst (λ c. slice_get (rows_of d b log) p ≡ Some (ChunkRow c)) (eqb-true c k t) g
+      from row g t = absurd (false≢true t)
 
   any_here : (rows : List Row) (p : ℕ) (row : Row) → slice_get rows p ≡ Some row → is_chunk k row ≡ true → list_any (is_chunk k) rows ≡ true
   any_here [] p row h t = cc
@@ -112,17 +132,8 @@ module _ (d : Dataset) (b : Base) (log : List Entry) (k : ℕ) where
 
   -- where it ends nowhere, there is no record of the chunk
   pub no_chunk : first_place (is_chunk k) (rows_of d b log) ≡ None → (p : ℕ) → HoldsChunk d b log p k → ⊥
-  unfolding is_chunk first_place place_of
-  no_chunk h p g = at_zero (place_from (is_chunk k) 0 (rows_of d b log)) h f.0 f.1 f.2
-    where
-      f : (row : Row) × (slice_get (rows_of d b log) (place_from (is_chunk k) 0 (rows_of d b log)) ≡ Some row) × (is_chunk k row ≡ true)
-      f = found_from (is_chunk k) (rows_of d b log) 0 (rows_of d b log) refl (any_here (rows_of d b log) p (ChunkRow k) g (eq-eqb k k refl))
-
-      at_zero : (n : ℕ) → cond (eqb n 0) None (Some n) ≡ None → (row : Row) → slice_get (rows_of d b log) n ≡ Some row → is_chunk k row ≡ true → ⊥
-      at_zero zero e row s t = let q : Some row ≡ Some (HeaderRow d (length b.supervoxels) (length (chunks d b))) = sym s ∙ headed d b log in let w : row ≡ HeaderRow d (length b.supervoxels) (length (chunks d b)) = cc in absurd (false≢true (sym (ap (is_chunk k) w) ∙ t))
-      at_zero (suc n) e row s t =
-          let q : Some (suc n) ≡ None = sym (cond-false (eqb (suc n) 0) None (Some (suc n)) (ne_eqb (suc n) 0 (λ y. absurd (let w : suc n ≡ 0 = y in omega arith)))) ∙ e in
-          false≢true (subst IsSome q refl)
+  unfolding is_chunk
+  no_chunk h p g = none_passes d b log (is_chunk k) refl h (any_here (rows_of d b log) p (ChunkRow k) g (eq-eqb k k refl))
 
 module _ (d : Dataset) (b : Base) (log : List Entry) (words : List ℕ) (i : ParentImage d b log words) where
   -- a supervoxel's chunk of the top layer has a record

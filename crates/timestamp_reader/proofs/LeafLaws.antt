@@ -61,10 +61,10 @@ module _ (d : Dataset) (b : Base) (valid : IsDataset d) (base : IsBase d b) wher
       m ∙ (ap (λ xs. ascending (map (root d b (next ∷ f ∷ log)) (ends xs))) (sym c)
       ∙ ap ascending (map_same (root d b (next ∷ f ∷ log)) (root d b (e ∷ f ∷ log)) (λ v. root_same d b next e (f ∷ log) v (sym c)) (ends e.changed)))
 
-  abbrev Fresh : Entry → List Entry → ℕ → Type 0
+  abbrev pub Fresh : Entry → List Entry → ℕ → Type 0
   Fresh e log y = (u : ℕ) × (has b.supervoxels u ≡ true) × (root d b (e ∷ log) u ≡ y) × (is_new d b (e ∷ log) (top d) u ≡ true)
 
-  made_fresh : (e : Entry) (log : List Entry) (y : ℕ) → Legal d b (e ∷ log) → has e.made y ≡ true → Fresh e log y
+  pub made_fresh : (e : Entry) (log : List Entry) (y : ℕ) → Legal d b (e ∷ log) → has e.made y ≡ true → Fresh e log y
   unfolding is_new is_empty
   made_fresh e [] y legal h =
       let r = map_only (root d b (e ∷ [])) b.supervoxels y (ascending_only _ y (subst (λ xs. has xs y ≡ true) (first_made d b valid base e legal) h)) in
@@ -88,7 +88,7 @@ module _ (d : Dataset) (b : Base) (valid : IsDataset d) (base : IsBase d b) wher
           later_other d b valid base g newer e log legal n born (top d) w (top_in_layers d) hw r.2
 
   -- the entry that made a root names it
-  made_here : (e : Entry) (log : List Entry) → Legal d b (e ∷ log) → (w : ℕ) → has b.supervoxels w ≡ true → is_new d b (e ∷ log) (top d) w ≡ true → has e.made (root d b (e ∷ log) w) ≡ true
+  pub made_here : (e : Entry) (log : List Entry) → Legal d b (e ∷ log) → (w : ℕ) → has b.supervoxels w ≡ true → is_new d b (e ∷ log) (top d) w ≡ true → has e.made (root d b (e ∷ log) w) ≡ true
   unfolding is_new is_empty
   made_here e [] legal w hw n =
       subst (λ xs. has xs (root d b (e ∷ []) w) ≡ true) (sym (first_made d b valid base e legal)) (ascending_has _ _ (map_has (root d b (e ∷ [])) b.supervoxels w hw))
@@ -115,7 +115,7 @@ module _ (d : Dataset) (b : Base) (valid : IsDataset d) (base : IsBase d b) wher
       let p = of_component d b valid base whole (top d) w x h in
       filter_has test b.supervoxels x p.0 (eq-eqb (root d b whole x) (root d b whole w) (sym (joined_root d b e log w x valid.layout legal hw p.2))))
 
-  leaves_from : (newer : List Entry) (e : Entry) (log : List Entry) → Legal d b (newer ++ e ∷ log) → (w : ℕ) → has b.supervoxels w ≡ true → is_new d b (e ∷ log) (top d) w ≡ true
+  pub leaves_from : (newer : List Entry) (e : Entry) (log : List Entry) → Legal d b (newer ++ e ∷ log) → (w : ℕ) → has b.supervoxels w ≡ true → is_new d b (e ∷ log) (top d) w ≡ true
       → leaves d b (newer ++ e ∷ log) (root d b (e ∷ log) w) ≡ component d b (e ∷ log) (top d) w
   unfolding leaves
   leaves_from [] e log legal w hw n =

@@ -80,7 +80,8 @@ module _ (d : Dataset) (b : Base) (valid : IsDataset d) (base : IsBase d b) wher
           omega arith)
       go row s t = absurd (false≢true t)
 
-  node_id_layer : (e : Entry) (log : List Entry) → Legal d b (e ∷ log) → (l u : ℕ) → has (layers d) l ≡ true → has b.supervoxels u ≡ true → (parts_of d.layout (node d b (e ∷ log) l u)).layer ≡ l
+  -- the layer of a node's id
+  pub node_id_layer : (e : Entry) (log : List Entry) → Legal d b (e ∷ log) → (l u : ℕ) → has (layers d) l ≡ true → has b.supervoxels u ≡ true → (parts_of d.layout (node d b (e ∷ log) l u)).layer ≡ l
   unfolding node
   node_id_layer e log legal l u hl hu = layer_told d valid.layout l u (label d b (e ∷ log) l u) (layer_low d l hl) (labels_fit d b (e ∷ log) l u legal hl hu)
 

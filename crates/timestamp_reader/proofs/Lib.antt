@@ -11,3 +11,6 @@ pub mod ChildRows
 pub mod LeafMeaning
 pub mod LeafWalks
 pub mod LeafLaws
+pub mod ReadPrefixes
+pub mod MadeRoots
+pub mod Refused

@@ -77,7 +77,7 @@ module _ (d : Dataset) (b : Base) (valid : IsDataset d) (base : IsBase d b) wher
       (all_both (λ n. (p : Born d b log n) × (p.layer ≡ l)) (λ n. Among n (layer_nodes d b log k l)) (layer_nodes d b log k l) (layer_born log k l p) (all_among (layer_nodes d b log k l))))
       (layers_low d))
 
-  news_born : (log : List Entry) (k : ℕ) → AllByRecursion (Born d b log) (new_nodes d b log k)
+  pub news_born : (log : List Entry) (k : ℕ) → AllByRecursion (Born d b log) (new_nodes d b log k)
   news_born log k = all_more (Placed log k) (Born d b log) (new_nodes d b log k) (λ n p. p.0) (news_placed log k)
 
   -- components with the same joined supervoxels are one

@@ -6,6 +6,7 @@
 //! items hold counts for nothing, so no root is computed anew from the edges. The first two take no
 //! memory.
 //!
+//! - `answers`: whole replies to reads
 //! - `nodes`: the nodes of a supervoxel at a prefix
 //! - `node_leaves`: the supervoxels of a node
 //! - `roots`: the roots of pairs that an entry changed
@@ -13,6 +14,7 @@
 //! - `laws`: what holds of the records' leaves, the contract of a function that does nothing
 #![tactic(auto)]
 
+mod answers;
 mod entries;
 mod first_roots;
 pub mod laws;
@@ -24,6 +26,7 @@ mod roots;
 #[cfg(test)]
 mod tests;
 
+pub use answers::answer;
 pub use entries::entry;
 pub use node_leaves::leaves;
 pub use nodes::{path_at, root_at};
