@@ -33,10 +33,15 @@ abbrev pub Tells : Dataset → LayersError → BuildError → Type 0
 Tells d (layers.IdsSpent layer c) result = let p = parts_of d.layout c in result ≡ IdsSpent layer p.x p.y p.z
 Tells d layers.NoMemory result = result ≡ NoMemory
 
--- The first chunk with more nodes than its ids have numbers, by layer, x, y and z; else, where there is none, more records than the capacity.
-abbrev pub IsRefused : Dataset → Base → BuildError → Type 0
-IsRefused d b (IdsSpent layer x y z) =
+-- Why a base's records can't be had: the first chunk with more nodes than its ids have numbers, by layer, x, y and z; else, where there is none, more records than the capacity.
+abbrev pub IsFull : Dataset → Base → BuildError → Type 0
+IsFull d b (IdsSpent layer x y z) =
     (c : ℕ) × ((now : ℕ) → IsFirstSpent d b (ingested d b now) layer c) × (let p = parts_of d.layout c in (x ≡ p.x) × (y ≡ p.y) × (z ≡ p.z))
-IsRefused d b (TooSmall need given) =
+IsFull d b (TooSmall need given) =
     ((now : ℕ) → LabelsFit d b (ingested d b now) × (need ≡ records d b (ingested d b now))) × (given ≡ d.capacity) × (given < need)
+IsFull d b NoMemory = ⊥
+
+-- that, unless there was no memory
+abbrev pub IsRefused : Dataset → Base → BuildError → Type 0
 IsRefused d b NoMemory = ⊤
+IsRefused d b error = IsFull d b error

@@ -9,7 +9,8 @@ ghost use Rattle.record_rows.specs.Readings.{Image};
 ghost use Rattle.plain_hierarchy.specs.Ingest.{ingested};
 ghost use Rattle.hierarchy_build.specs.Layers.{all_nodes};
 ghost use Rattle.hierarchy_build.specs.Links.{AreBuilt};
-ghost use Rattle.hierarchy_build.specs.Built.{AreLists, IsRefused, Tells};
+ghost use Rattle.hierarchy_build.specs.Built.{AreLists, IsFull, IsRefused, Tells};
+ghost use Rattle.hierarchy_build.specs.declared.errors.BuildError.{BuildError as TheBuildError};
 
 use crate::chunking::{base_chunks, base_nodes, chunk_count};
 use crate::counting::records_of;
@@ -85,6 +86,7 @@ pub fn build(
     ensures image { IfOk result (λ w. Image dataset.now base.now (ingested dataset.now base.now (min now (2 ^ 62 - 1))) w.words) }
     ensures room { IfOk result (λ w. 8 * dataset.now.capacity ≤ length w.words + w.spare) }
     ensures refused { IfErr result (λ e. IsRefused dataset.now base.now e) }
+    ensures fits { OnOk result ((e : TheBuildError) → IsFull dataset.now base.now e → ⊥) }
 {
     let layers = match build_layers(alloc, dataset, base) {
         Ok(layers) => layers,

@@ -102,6 +102,7 @@ fn layers_over(
     ensures count { IfOk result (λ v. length v.items ≡ top dataset.now - 1) }
     ensures nodes { IfOk result (λ v. (now : ℕ) → all_nodes base.now v.items ≡ new_nodes dataset.now base.now (ingested dataset.now base.now now) 0) }
     ensures fit { OnOk result ((now : ℕ) → LabelsFit dataset.now base.now (ingested dataset.now base.now now)) }
+    ensures room { OnOk result ((now at : ℕ) → 2 ≤ at → at ≤ top dataset.now → spent_in dataset.now base.now (ingested dataset.now base.now now) at ≡ None) }
     ensures spent { IfErr result (OfSpent (λ at c. (now : ℕ) → IsFirstSpent dataset.now base.now (ingested dataset.now base.now now) at c)) }
 {
     let mut layers = Vec::new(alloc);
@@ -141,6 +142,7 @@ pub fn build_layers(
     ensures count { IfOk result (λ v. length v.items ≡ top dataset.now - 1) }
     ensures nodes { IfOk result (λ v. (now : ℕ) → all_nodes base.now v.items ≡ new_nodes dataset.now base.now (ingested dataset.now base.now now) 0) }
     ensures fit { OnOk result ((now : ℕ) → LabelsFit dataset.now base.now (ingested dataset.now base.now now)) }
+    ensures room { OnOk result ((now at : ℕ) → 2 ≤ at → at ≤ top dataset.now → spent_in dataset.now base.now (ingested dataset.now base.now now) at ≡ None) }
     ensures spent { IfErr result (OfSpent (λ at c. (now : ℕ) → IsFirstSpent dataset.now base.now (ingested dataset.now base.now now) at c)) }
 {
     let Ok(edges) = placed_edges(alloc, dataset, base) else {

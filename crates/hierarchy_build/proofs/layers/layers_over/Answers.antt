@@ -76,3 +76,11 @@ returns-clause-fit c now =
     let e = c.top_layer-layer-end.ensures.is in
     let l = c.loop-layer.auto.layer-end in
     all_fit c.args.dataset.now c.args.base.now (ingested c.args.dataset.now c.args.base.now now) c.loop-layer.layer (omega (arith, t, e, l)) (c.loop-layer.invariant.fit now)
+
+pub returns-clause-room : goal.returns-clause-room
+unfolding top
+returns-clause-room c now at low high =
+    let t = c.loop-layer-test.false in
+    let e = c.top_layer-layer-end.ensures.is in
+    let l = c.loop-layer.auto.layer-end in
+    c.loop-layer.invariant.room now at low (omega (arith, t, e, l, high))
