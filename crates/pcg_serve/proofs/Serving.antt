@@ -9,12 +9,11 @@ use Rattle.op_model.specs.declared.Entry.{Entry}
 use Rattle.op_model.specs.declared.Reply.{Reply}
 use Rattle.op_model.specs.Transcript.{Line}
 use Rattle.request_lines.specs.Lines.{lines_of}
-use Rattle.request_lines.specs.Plain.{asked_plain}
 use Rattle.request_lines.specs.Texts.{reply_text}
 use Rattle.pcg_base.specs.Told.{AppendsFront}
 use Rattle.pcg_base.proofs.Appending.{appends_more}
 use Rattle.pcg_serve.specs.declared.session.Session.{Session}
-use Rattle.pcg_serve.specs.Sessions.{asked_of, Answers, Serves, Replies, texts, refuses, Did, SoFar}
+use Rattle.pcg_serve.specs.Sessions.{asked_line, asked_of, Answers, Serves, Replies, texts, refuses, Did, SoFar}
 
 texts-append : (rs more : List Reply) → texts (rs ++ more) ≡ texts rs ++ texts more
 unfolding texts
@@ -54,18 +53,18 @@ starts d b log stream held = record {
 }
 
 -- the lines that are left begin with the next one
-left : (rest line next : List ℕ) → lines_of rest ≡ line ∷ lines_of next → asked_of rest ≡ asked_plain line ∷ asked_of next
-left rest line next e = ap (map asked_plain) e
+left : (rest line next : List ℕ) → lines_of rest ≡ line ∷ lines_of next → asked_of rest ≡ asked_line line ∷ asked_of next
+left rest line next e = ap (map asked_line) e
 
 pub goes_on : (d : Dataset) (b : Base) (log : List Entry) (stream rest line next : List ℕ) (held between held' : Option (List ℕ)) (lines refused : ℕ) (r : Reply)
-    → SoFar d b log stream rest held between lines refused → lines_of rest ≡ line ∷ lines_of next → Answers d b log (asked_plain line) r
+    → SoFar d b log stream rest held between lines refused → lines_of rest ≡ line ∷ lines_of next → Answers d b log (asked_line line) r
     → Appends between held' (reply_text r) → SoFar d b log stream next held held' (lines + 1) (refused + cond (refuses r) 1 0)
 goes_on d b log stream rest line next held between held' lines refused r so e a w = record {
-  done = so.done ++ asked_plain line ∷ [];
+  done = so.done ++ asked_line line ∷ [];
   written = so.written ++ r ∷ [];
-  split = so.split ∙ ap (λ ls. so.done ++ ls) (left rest line next e) ∙ sym (append_assoc so.done (asked_plain line ∷ []) (asked_of next));
-  serves = serves_more d b log so.done so.written (asked_plain line) r [] so.serves so.each a;
-  each = length-append so.written (r ∷ []) ∙ omega (arith, so.each, length-append so.done (asked_plain line ∷ []));
+  split = so.split ∙ ap (λ ls. so.done ++ ls) (left rest line next e) ∙ sym (append_assoc so.done (asked_line line ∷ []) (asked_of next));
+  serves = serves_more d b log so.done so.written (asked_line line) r [] so.serves so.each a;
+  each = length-append so.written (r ∷ []) ∙ omega (arith, so.each, length-append so.done (asked_line line ∷ []));
   wrote = appends_more held between held' (texts so.written) (reply_text r) (texts (so.written ++ r ∷ [])) (texts-append so.written (r ∷ []) ∙ ap (λ t. texts so.written ++ t) (texts-one r)) so.wrote w;
   count = omega (arith, so.count, length-append so.written (r ∷ []));
   noes = ap (λ n. n + cond (refuses r) 1 0) so.noes ∙ sym (count_more so.written r);
@@ -90,12 +89,12 @@ ends d b log stream rest held held' s so e f =
 
 -- the writing of a reply failed
 pub breaks : (d : Dataset) (b : Base) (log : List Entry) (stream rest line next : List ℕ) (held between held' : Option (List ℕ)) (s : Session) (r : Reply)
-    → SoFar d b log stream rest held between s.lines s.refused → lines_of rest ≡ line ∷ lines_of next → Answers d b log (asked_plain line) r
+    → SoFar d b log stream rest held between s.lines s.refused → lines_of rest ≡ line ∷ lines_of next → Answers d b log (asked_line line) r
     → AppendsFront between held' (reply_text r) → s.failed ≡ true → Did d b log (asked_of stream) held held' s
 breaks d b log stream rest line next held between held' s r so e a w f = record {
   written = so.written;
   last = Some r;
-  serves = rw (so.split ∙ ap (λ ls. so.done ++ ls) (left rest line next e)) (serves_more d b log so.done so.written (asked_plain line) r (asked_of next) so.serves so.each a);
+  serves = rw (so.split ∙ ap (λ ls. so.done ++ ls) (left rest line next e)) (serves_more d b log so.done so.written (asked_line line) r (asked_of next) so.serves so.each a);
   wrote = (between, so.wrote, w);
   failed = f;
   whole = λ n. absurd (cc);
@@ -106,7 +105,7 @@ breaks d b log stream rest line next held between held' s r so e a w f = record 
 -- the next line has its reply
 pub next : (d : Dataset) (b : Base) (log : List Entry) (stream rest line more : List ℕ) (held between held' : Option (List ℕ)) (before after : Session)
     → SoFar d b log stream rest held between before.lines before.refused → lines_of rest ≡ line ∷ lines_of more
-    → Replies d b log (asked_plain line) between held' before after → after.failed ≡ false
+    → Replies d b log (asked_line line) between held' before after → after.failed ≡ false
     → SoFar d b log stream more held held' after.lines after.refused
 next d b log stream rest line more held between held' before after so e h f =
     let got = goes_on d b log stream rest line more held between held' before.lines before.refused h.0 so e h.1 (h.2.wrote f) in
@@ -115,7 +114,7 @@ next d b log stream rest line more held between held' before after so e h f =
 -- the next line's reply broke off
 pub last_line : (d : Dataset) (b : Base) (log : List Entry) (stream rest line more : List ℕ) (held between held' : Option (List ℕ)) (before after : Session)
     → SoFar d b log stream rest held between before.lines before.refused → lines_of rest ≡ line ∷ lines_of more
-    → Replies d b log (asked_plain line) between held' before after → after.failed ≡ true
+    → Replies d b log (asked_line line) between held' before after → after.failed ≡ true
     → Did d b log (asked_of stream) held held' after
 last_line d b log stream rest line more held between held' before after so e h f =
     let same = h.2.same f in

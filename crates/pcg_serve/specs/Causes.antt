@@ -12,10 +12,13 @@ use Rattle.pcg_serve.specs.declared.stops.FileName.{FileName}
 use Rattle.pcg_serve.specs.declared.stops.FileName.TheVariants as files
 use Rattle.pcg_serve.specs.declared.stops.Stop.{Stop}
 use Rattle.pcg_serve.specs.declared.stops.Stop.TheVariants as stops
+use Rattle.hierarchy_build.specs.declared.errors.BuildError.{BuildError}
+use Rattle.hierarchy_build.specs.declared.errors.BuildError.TheVariants as builds
+use Rattle.hierarchy_build.specs.Built.{IsFull}
 use Rattle.table_ingest.specs.declared.errors.Table.{Table}
 use Rattle.table_ingest.specs.declared.errors.Cause.{Cause}
 use Rattle.table_ingest.specs.Bases.{Faulty}
-use Rattle.pcg_serve.specs.Jobs.{HasBase, HasTable, IsLarge, TablesAre, dataset_of, limit, table_limit}
+use Rattle.pcg_serve.specs.Jobs.{HasBase, HasTable, TablesAre, dataset_of, limit, table_limit}
 
 -- a job of one client and no schedule
 abbrev pub has_one_client : RehearseJob → Bool
@@ -26,9 +29,13 @@ abbrev pub HasFault : Option Files → RehearseJob → Table → ℕ → Cause �
 HasFault None job table row cause = ⊤
 HasFault (Some m) job table row cause = (supervoxels edges : List ℕ) × TablesAre m job supervoxels edges × Faulty (dataset_of job) supervoxels edges table row cause
 
--- its tables spell a base that is too large yet
-abbrev pub HasLargeBase : Option Files → RehearseJob → Type 0
-HasLargeBase m job = (b : Base) × HasBase m job b × IsLarge b
+-- its tables spell a base whose records can't be had, for this reason
+abbrev pub IsFullSo : Option Files → RehearseJob → BuildError → Type 0
+IsFullSo m job e = (b : Base) × HasBase m job b × IsFull (dataset_of job) b e
+
+-- for some reason
+abbrev pub HasFullBase : Option Files → RehearseJob → Type 0
+HasFullBase m job = (e : BuildError) × IsFullSo m job e
 
 -- where the place tells its bytes, the only client's requests have more of them than are read
 abbrev pub HasLong : Option Files → List (List ℕ) → Type 0
@@ -39,13 +46,13 @@ HasLong m (stem ∷ stems) = IsLongerAt m (request_file stem) limit
 abbrev pub HasLongTable : Option Files → RehearseJob → Type 0
 HasLongTable m job = IsLongerAt m job.supervoxels table_limit ⊎ ((bytes : List ℕ) × HasTable m job.supervoxels bytes × IsLongerAt m job.edges table_limit)
 
--- the tables were read, and spell a base
-abbrev pub HasSomeBase : Option Files → RehearseJob → Type 0
-HasSomeBase m job = (b : Base) × HasBase m job b
+-- the tables were read, and spell a base whose records can be had
+abbrev pub HasBuiltBase : Option Files → RehearseJob → Type 0
+HasBuiltBase m job = (b : Base) × HasBase m job b × ((e : BuildError) → IsFull (dataset_of job) b e → ⊥)
 
--- The input is of a form that isn't taken yet: several clients or a schedule; tables that spell too large a base; or, where they spell one, too many requests.
+-- The input is of a form that isn't taken yet: several clients or a schedule; or, where the tables spell a base whose records can be had, too many requests.
 abbrev pub IsUnbuilt : Option Files → RehearseJob → Type 0
-IsUnbuilt m job = (has_one_client job ≡ false) ⊎ HasLargeBase m job ⊎ (HasSomeBase m job × HasLong m job.stems)
+IsUnbuilt m job = (has_one_client job ≡ false) ⊎ (HasBuiltBase m job × HasLong m job.stems)
 
 -- the counts of a place
 pub record Seen : Type 0 where
@@ -131,7 +138,8 @@ TablesStop m left job old new (stops.ReadFault client files.Edges) = (client ≡
 TablesStop m left job old new (stops.TooLong client files.Supervoxels) = (client ≡ 0) × IsLongerAt m job.supervoxels table_limit
 TablesStop m left job old new (stops.TooLong client files.Edges) = (client ≡ 0) × IsLongerAt m job.edges table_limit × WasRead m left job.supervoxels
 TablesStop m left job old new (stops.BadTable table row cause) = HasFault m job table row cause × TablesRead m left job
-TablesStop m left job old new stops.NotBuilt = HasLargeBase m job × TablesRead m left job
+TablesStop m left job old new (stops.IdsSpent layer x y z) = IsFullSo m job (builds.IdsSpent layer x y z) × TablesRead m left job
+TablesStop m left job old new (stops.TooSmall need given) = IsFullSo m job (builds.TooSmall need given) × TablesRead m left job
 TablesStop m left job old new stops.NoMemory = ⊤
 TablesStop m left job old new stop = ⊥
 
@@ -140,7 +148,7 @@ abbrev pub StopCause : Option Files → Option Files → (List ℕ → List ℕ)
 StopCause m m' left job old new stop =
     ((has_one_client job ≡ false) × (stop ≡ stops.NotBuilt) × KeepsFiles m m')
     ⊎ ((has_one_client job ≡ true) × TablesStop m left job old new stop × KeepsFiles m m')
-    ⊎ ((has_one_client job ≡ true) × HasSomeBase m job × TablesRead m left job × StopsOnly m m' left job.stems old new stop)
+    ⊎ ((has_one_client job ≡ true) × HasBuiltBase m job × TablesRead m left job × StopsOnly m m' left job.stems old new stop)
 
 -- the status of a call that came past its sessions, where a fault of its output doesn't count
 abbrev pub EndsSo : ℕ → ℕ → ℕ → ℕ → ℕ → Type 0
@@ -158,7 +166,7 @@ HasBadTable m job = (table : Table) × (row : ℕ) × (cause : Cause) × HasFaul
 abbrev pub IsDue : Option Files → RehearseJob → ℕ → Type 0
 IsDue None job status = ⊥
 IsDue (Some m) job status =
-    ((has_one_client job ≡ true) × (((status ≡ 3) × HasBadTable (Some m) job) ⊎ ((status ≡ 7) × HasLongTable (Some m) job)))
+    ((has_one_client job ≡ true) × (((status ≡ 3) × HasBadTable (Some m) job) ⊎ ((status ≡ 7) × HasLongTable (Some m) job) ⊎ ((status ≡ 6) × HasFullBase (Some m) job)))
     ⊎ ((status ≡ 8) × IsUnbuilt (Some m) job)
 
 -- the same of the words
@@ -170,6 +178,11 @@ IsDueJob m (Some (job.Rehearse found)) status = IsDue m found status
 abbrev pub HasBadTableJob : Option Files → Option Job → Type 0
 HasBadTableJob m None = ⊥
 HasBadTableJob m (Some (job.Rehearse found)) = HasBadTable m found
+
+-- the words spell a job whose base's records can't be had
+abbrev pub HasFullBaseJob : Option Files → Option Job → Type 0
+HasFullBaseJob m None = ⊥
+HasFullBaseJob m (Some (job.Rehearse found)) = HasFullBase m found
 
 -- the words spell a job that has too long a table
 abbrev pub HasLongTableJob : Option Files → Option Job → Type 0

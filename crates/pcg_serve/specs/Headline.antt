@@ -27,7 +27,9 @@ use Rattle.pcg_serve.specs.declared.client.Ended.{Ended}
 use Rattle.pcg_serve.specs.declared.ingest.Ingest.{Ingest}
 use Rattle.pcg_serve.specs.declared.session.Session.{Session}
 use Rattle.pcg_serve.specs.Ingests.{log_of}
-use Rattle.pcg_serve.specs.Jobs.{HasBase, IsLarge, dataset_of}
+use Rattle.hierarchy_build.specs.declared.errors.BuildError.{BuildError}
+use Rattle.hierarchy_build.specs.Built.{IsFull}
+use Rattle.pcg_serve.specs.Jobs.{HasBase, dataset_of}
 use Rattle.pcg_serve.specs.Sessions.{Did, asked_of, refuses, texts}
 use Rattle.pcg_serve.specs.declared.summary.Fault.{Fault}
 use Rattle.pcg_serve.specs.declared.summary.Fault.TheVariants as faults
@@ -243,13 +245,13 @@ abbrev pub OnlyFaultCause : Option Fault → List (List ℕ) → Seen → Seen �
 OnlyFaultCause fault [] old new = ⊥
 OnlyFaultCause fault (stem ∷ stems) old new = FaultCause fault stem old new
 
--- A call came past its sessions: its job has one client and no schedule, the tables were read and spell a base that isn't too large yet, and what is printed are the lines of a legal log over it and the summary.
+-- A call came past its sessions: its job has one client and no schedule, the tables were read and spell a base whose records can be had, and what is printed are the lines of a legal log over it and the summary.
 pub record CamePast (files files' : Option Files) (left : List ℕ → List ℕ) (job : RehearseJob) (old new : Seen) (printed : List ℕ) (ended : ℕ) : Type 0 where
   pub only : has_one_client job ≡ true
   pub base : Base
   pub has_base : HasBase files job base
   pub read : TablesRead files left job
-  pub small : ¬ (IsLarge base)
+  pub fits : (e : BuildError) → IsFull (dataset_of job) base e → ⊥
   pub log : List Entry
   pub legal : Legal (dataset_of job) base log
   pub fault : Option Fault

@@ -1,5 +1,5 @@
 -- The dataset of a job, and what its tables spell.
-use Rattle.std.specs.Prelude.{◌≡◌, ◌≤◌, ◌<◌, ◌⊎◌, ⊤, ℕ, List, length, Option, Some, None}
+use Rattle.std.specs.Prelude.{◌≡◌, ◌≤◌, ⊤, ℕ, List, length, Option, Some, None}
 use Rattle.std.specs.FinMap.{get}
 use Rattle.op_model.specs.declared.Dataset.{Dataset}
 use Rattle.op_model.specs.declared.Base.{Base}
@@ -37,7 +37,3 @@ TablesAre m job supervoxels edges = HasTable (Some m) job.supervoxels supervoxel
 abbrev pub HasBase : Option Files → RehearseJob → Base → Type 0
 HasBase None job base = ⊤
 HasBase (Some m) job base = (supervoxels edges : List ℕ) × TablesAre m job supervoxels edges × Spells (dataset_of job) supervoxels edges base
-
--- a base is larger than the labels are computed of
-abbrev pub IsLarge : Base → Type 0
-IsLarge b = (255 < length b.supervoxels) ⊎ (1000 < length b.edges)

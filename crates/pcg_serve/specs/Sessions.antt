@@ -1,21 +1,42 @@
 -- What a client gets to its lines, over the log of the first entry.
-use Rattle.std.specs.Prelude.{◌≡◌, ℕ, ◌+◌, if◌then◌else◌, Bool, true, false, ◌++◌, List, [], ◌∷◌, map, length, count_by, is_some, option_to_list, ⊤, Option, Some, None}
+use Rattle.std.specs.Prelude.{◌≡◌, ℕ, ◌+◌, if◌then◌else◌, Bool, true, false, ◌++◌, List, [], ◌∷◌, map, length, count_by, is_some, option_to_list, ⊤, Option, Some, None, Result, Ok, Err}
 use Rattle.std.specs.Io.KnownBytes.{Appends}
 use Rattle.op_model.specs.declared.Dataset.{Dataset}
 use Rattle.op_model.specs.declared.Base.{Base}
 use Rattle.op_model.specs.declared.Entry.{Entry}
 use Rattle.op_model.specs.declared.Reply.{Reply}
 use Rattle.op_model.specs.declared.Reply.TheVariants as reply
-use Rattle.op_model.specs.Transcript.{Line, Transcript}
+use Rattle.op_model.specs.declared.LineError.{LineError}
+use Rattle.op_model.specs.declared.LineError.TheVariants as errors
+use Rattle.op_model.specs.declared.Read.TheVariants as read
+use Rattle.op_model.specs.declared.Request.{Request}
+use Rattle.op_model.specs.declared.Request.TheVariants as request
+use Rattle.op_model.specs.Transcript.{Line, Asks, Faulty, Unbuilt, Transcript}
 use Rattle.request_lines.specs.Lines.{lines_of}
-use Rattle.request_lines.specs.Plain.{asked_plain}
+use Rattle.request_lines.specs.Asking.{asked}
 use Rattle.request_lines.specs.Texts.{reply_text}
 use Rattle.pcg_base.specs.Told.{AppendsFront}
 use Rattle.pcg_serve.specs.declared.session.Session.{Session}
 
+-- what a line is that is read as this: edits and reads of changes aren't answered yet
+abbrev pub line_of : Result Request LineError → Line
+line_of (Ok (request.Read (read.Changes root at))) = Unbuilt
+line_of (Ok (request.Read q)) = Asks (request.Read q)
+line_of (Ok (request.Edit edit)) = Unbuilt
+line_of (Err error) = Faulty error
+
+-- what a line that is no request is replied
+abbrev pub RepliesTo : LineError → Reply → Type 0
+RepliesTo errors.NoMemory r = r ≡ reply.NoMemory
+RepliesTo error r = r ≡ reply.BadLine error
+
+-- what a line asks
+abbrev pub asked_line : List ℕ → Line
+asked_line line = line_of (asked line)
+
 -- what each line of a request stream asks
 abbrev pub asked_of : List ℕ → List Line
-asked_of stream = map asked_plain (lines_of stream)
+asked_of stream = map asked_line (lines_of stream)
 
 -- a reply that a client may get to a line, where the log has one entry
 abbrev pub Answers : Dataset → Base → List Entry → Line → Reply → Type 0

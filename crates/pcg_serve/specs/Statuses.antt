@@ -9,5 +9,7 @@ status_of (stops.ReadFault client file) = 2
 status_of (stops.WriteFault client file) = 4
 status_of (stops.TooLong client file) = 7
 status_of (stops.BadTable table row cause) = 3
+status_of (stops.IdsSpent layer x y z) = 6
+status_of (stops.TooSmall need given) = 6
 status_of stops.NotBuilt = 8
 status_of stops.NoMemory = 5

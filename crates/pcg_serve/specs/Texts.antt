@@ -36,6 +36,18 @@ of_table table row cause =
     (member (codes "cause") (quoted (cause_name cause)) ∷ member (codes "fault") (quoted (codes "BadTable")) ∷ member (codes "row") (decimal row)
     ∷ member (codes "table") (quoted (table_name table)) ∷ [])
 
+-- a chunk with more nodes than its ids have numbers
+abbrev pub of_chunk : ℕ → ℕ → ℕ → ℕ → List ℕ
+of_chunk layer x y z =
+    line
+    (member (codes "fault") (quoted (codes "IdsSpent")) ∷ member (codes "layer") (decimal layer) ∷ member (codes "x") (decimal x) ∷ member (codes "y") (decimal y)
+    ∷ member (codes "z") (decimal z) ∷ [])
+
+-- more records than the capacity
+abbrev pub of_capacity : ℕ → ℕ → List ℕ
+of_capacity need given =
+    line (member (codes "fault") (quoted (codes "TooSmall")) ∷ member (codes "given") (decimal given) ∷ member (codes "need") (decimal need) ∷ [])
+
 -- the fault line of a call that stopped before its sessions
 unfoldable pub stop_text : Stop → List ℕ
 stop_text stops.BadWords = bare (codes "BadWords")
@@ -43,6 +55,8 @@ stop_text (stops.ReadFault client file) = of_file client (codes "ReadFault") fil
 stop_text (stops.WriteFault client file) = of_file client (codes "WriteFault") file
 stop_text (stops.TooLong client file) = of_file client (codes "TooLong") file
 stop_text (stops.BadTable table row cause) = of_table table row cause
+stop_text (stops.IdsSpent layer x y z) = of_chunk layer x y z
+stop_text (stops.TooSmall need given) = of_capacity need given
 stop_text stops.NotBuilt = bare (codes "NotBuilt")
 stop_text stops.NoMemory = bare (codes "NoMemory")
 

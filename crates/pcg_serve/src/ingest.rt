@@ -1,19 +1,25 @@
 //! What the two tables make: a base, and the log that it begins.
 
-ghost use Rattle.std.specs.Prelude.{◌≡◌, ◌≤◌, ◌<◌, ◌^◌, IfOk, IfErr, IsTrue, false, length};
+ghost use Rattle.std.specs.Prelude.{◌≡◌, ◌≤◌, ◌<◌, ◌^◌, ℕ, IfOk, IfErr, length};
 ghost use Rattle.pcg_words.specs.Job.{HasRanges};
 ghost use Rattle.op_model.specs.Valid.{IsDataset};
 ghost use Rattle.table_ingest.specs.Bases.{Spells};
-ghost use Rattle.pcg_serve.specs.Jobs.{IsLarge, dataset_of};
-ghost use Rattle.pcg_serve.specs.Ingests.{IfBad, IsIngest, MakesStop};
+ghost use Rattle.record_rows.specs.Readings.{Image};
+ghost use Rattle.plain_hierarchy.specs.Ingest.{ingested};
+ghost use Rattle.hierarchy_build.specs.declared.errors.BuildError.{BuildError as TheBuildError};
+ghost use Rattle.hierarchy_build.specs.Built.{IsFull};
+ghost use Rattle.pcg_serve.specs.Jobs.{dataset_of};
+ghost use Rattle.pcg_serve.specs.Ingests.{AreWords, IfBad, IsIngest, MakesStop, TellsStop};
 
 use crate::stops::Stop;
+use hierarchy_build::{BuildError, build};
 use node_ids::Layout;
 use op_model::{Base, Dataset, Entry};
+use pcg_base::{NoMemory, VecWords, Words};
 use pcg_words::RehearseJob;
-use plain_hierarchy::{first_entry, record_count};
 use std::alloc::Global;
 use table_ingest::{TableError, read_base};
+use timestamp_reader::entry;
 
 /// A base, and the log that it begins.
 #[derive(Drop)]
@@ -26,6 +32,15 @@ pub struct Ingest {
     pub entry: Entry,
     /// How many records the log takes.
     pub records: u64,
+}
+
+/// A base with its log, and the words that the log is read from.
+#[derive(Drop)]
+pub struct Begun {
+    /// The base, and the log that it begins.
+    pub ingest: Ingest,
+    /// The log's words, with room for all records of the capacity.
+    pub words: VecWords,
 }
 
 /// The dataset of a job.
@@ -44,14 +59,6 @@ fn dataset_of(job: &RehearseJob) -> Dataset
     }
 }
 
-/// Whether a base is larger than the labels are computed of.
-fn is_large(base: &Base) -> bool
-    ensures large { IsTrue result → IsLarge base.now }
-    ensures small { result ≡ false → (length base.now.supervoxels ≤ 255) × (length base.now.edges ≤ 1000) }
-{
-    base.supervoxels.list.len() > 255 || base.edges.list.len() > 1000
-}
-
 /// Why two tables gave no base.
 fn stop_of(error: TableError) -> Stop
     ensures bad { IfBad error (λ table row cause. result ≡ Stop.BadTable table row cause) }
@@ -63,18 +70,58 @@ fn stop_of(error: TableError) -> Stop
     }
 }
 
-/// What two tables make: `BadTable` exactly where a record has a cause, `NotBuilt` exactly where they spell
-/// a base of more than 255 supervoxels or 1,000 edges, unless memory ran out.
+/// Why a base's records aren't there.
+fn full_of(error: BuildError) -> Stop
+    ensures { TellsStop error result }
+{
+    match error {
+        BuildError::IdsSpent { layer, x, y, z } => Stop::IdsSpent { layer, x, y, z },
+        BuildError::TooSmall { need, given } => Stop::TooSmall { need, given },
+        BuildError::NoMemory => Stop::NoMemory,
+    }
+}
+
+/// A base and its words, with the entry that is read from them.
+fn begun(
+    alloc: Global,
+    dataset: Dataset,
+    base: Base,
+    mut words: VecWords,
+) -> Result<Begun, NoMemory>
+    requires image { (at : ℕ) × Image dataset base (ingested dataset base at) words.words }
+    requires fits { (e : TheBuildError) → IsFull dataset base e → ⊥ }
+    ensures made { IfOk result (λ b. IsIngest b.ingest) }
+    ensures words { IfOk result (λ b. AreWords b.ingest b.words.words) }
+    ensures dataset { IfOk result (λ b. b.ingest.dataset ≡ dataset) }
+    ensures base { IfOk result (λ b. b.ingest.base ≡ base) }
+{
+    let entry = entry(alloc, &mut words, 0)?;
+    let records = words.len() / 8;
+    Ok(Begun {
+        ingest: Ingest {
+            dataset,
+            base,
+            entry,
+            records,
+        },
+        words,
+    })
+}
+
+/// What two tables make: `BadTable` exactly where a record has a cause, `IdsSpent` and `TooSmall`
+/// exactly where they spell a base whose records can't be had, unless memory ran out.
 pub fn make_ingest(
     alloc: Global,
     job: &RehearseJob,
     supervoxels: &[u8],
     edges: &[u8],
-) -> Result<Ingest, Stop>
-    requires { HasRanges job.now }
-    ensures made { IfOk result (λ i. IsIngest i) }
-    ensures dataset { IfOk result (λ i. i.dataset ≡ dataset_of job.now) }
-    ensures base { IfOk result (λ i. Spells (dataset_of job.now) supervoxels.now edges.now i.base) }
+) -> Result<Begun, Stop>
+    requires ranges { HasRanges job.now }
+    requires size { length supervoxels.now ≤ 1073741824 }
+    ensures made { IfOk result (λ b. IsIngest b.ingest) }
+    ensures words { IfOk result (λ b. AreWords b.ingest b.words.words) }
+    ensures dataset { IfOk result (λ b. b.ingest.dataset ≡ dataset_of job.now) }
+    ensures base { IfOk result (λ b. Spells (dataset_of job.now) supervoxels.now edges.now b.ingest.base) }
     ensures stop { IfErr result (λ stop. MakesStop (dataset_of job.now) supervoxels.now edges.now stop) }
 {
     let dataset = dataset_of(job);
@@ -82,19 +129,12 @@ pub fn make_ingest(
         Ok(base) => base,
         Err(error) => return Err(stop_of(error)),
     };
-    if is_large(&base) {
-        return Err(Stop::NotBuilt);
+    let words = match build(alloc, &base, &dataset, job.clock.time(0)) {
+        Ok(words) => words,
+        Err(error) => return Err(full_of(error)),
+    };
+    match begun(alloc, dataset, base, words) {
+        Ok(begun) => Ok(begun),
+        Err(_) => Err(Stop::NoMemory),
     }
-    let Ok(entry) = first_entry(alloc, &dataset, &base, job.clock.time(0)) else {
-        return Err(Stop::NoMemory);
-    };
-    let Ok(records) = record_count(alloc, &dataset, &base) else {
-        return Err(Stop::NoMemory);
-    };
-    Ok(Ingest {
-        dataset,
-        base,
-        entry,
-        records,
-    })
 }

@@ -1,22 +1,18 @@
 //! A client's session: each line of its requests gets one reply.
 
-ghost use Rattle.std.specs.Prelude.{◌≡◌, ◌≤◌, ◌<◌, ◌+◌, ◌^◌, ◌∷◌, [], ℕ, None, length, IsTrue};
-ghost use Rattle.op_model.specs.Transcript.{Asks};
-ghost use Rattle.op_model.specs.declared.Request.TheVariants as request;
-ghost use Rattle.op_model.specs.declared.Read.TheVariants as read;
+ghost use Rattle.std.specs.Prelude.{◌≡◌, ◌≤◌, ◌<◌, ◌+◌, ◌^◌, ◌∷◌, [], Ok, length, IsTrue};
+ghost use Rattle.op_model.specs.declared.Dataset.{Dataset};
+ghost use Rattle.op_model.specs.declared.Base.{Base};
+ghost use Rattle.op_model.specs.declared.Entry.{Entry};
 ghost use Rattle.pcg_base.specs.Causes.{Rose};
-ghost use Rattle.op_model.specs.Valid.{IsBase, IsDataset};
-ghost use Rattle.plain_hierarchy.specs.Ingest.{ingested};
-ghost use Rattle.request_lines.specs.Plain.{asked_plain};
+ghost use Rattle.record_rows.specs.Readings.{Image};
 
 use crate::ingest::Ingest;
-use node_ids::NodeId;
-use op_model::pairs::contains;
-use op_model::{Base, Dataset, Refusal, Reply};
-use pcg_base::{NoMemory, Sink};
-use plain_hierarchy::root;
-use request_lines::{read_plain_line, split_line, write_reply};
+use op_model::{LineError, Reply, Request};
+use pcg_base::{Sink, VecWords};
+use request_lines::{read_line, split_line, write_reply};
 use std::alloc::Global;
+use timestamp_reader::answer;
 
 /// What a session came to.
 #[derive(Clone, Copy, Debug, PartialEq, Eq)]
@@ -29,36 +25,40 @@ pub struct Session {
     pub failed: bool,
 }
 
-ghost use Rattle.pcg_serve.specs.Sessions.{Answers, Counts, Did, Replies, asked_of, refuses};
-ghost use Rattle.pcg_serve.specs.Ingests.{IsIngest, log_of};
+ghost use Rattle.pcg_serve.specs.Sessions.{Answers, Counts, Did, Replies, RepliesTo, asked_line, asked_of, line_of, refuses};
+ghost use Rattle.pcg_serve.specs.Ingests.{AreWords, log_of};
 
-/// The reply to a read of a root.
-fn root_of(alloc: Global, dataset: &Dataset, base: &Base, sv: NodeId) -> Reply
-    requires dataset { IsDataset dataset.now }
-    requires base { IsBase dataset.now base.now }
-    ensures { (at : ℕ) → Answers dataset.now base.now (ingested dataset.now base.now at) (Asks (request.Read (read.Root sv None))) result }
+/// The reply to a request.
+fn reply_to_request(alloc: Global, words: &mut VecWords, request: &Request) -> Reply
+    requires image { (d : Dataset) × (b : Base) × (e : Entry) × Image d b (e ∷ []) words.old.words }
+    ensures same { words.new ≡ words.old }
+    ensures is { (d : Dataset) (b : Base) (e : Entry) → Image d b (e ∷ []) words.old.words → Answers d b (e ∷ []) (line_of (Ok request.now)) result }
 {
-    if !contains(&base.supervoxels, sv) {
-        return Reply::Refused {
-            refusal: Refusal::NoSuchSupervoxel { id: sv },
-            seen: 1,
-        };
+    match request {
+        Request::Read(read) => answer(alloc, words, read),
+        Request::Edit(_) => Reply::NotBuilt,
     }
-    match root(alloc, dataset, base, sv) {
-        Ok(root) => Reply::Root { root, seen: 1 },
-        Err(NoMemory) => Reply::NoMemory,
+}
+
+/// The reply to a line that is no request.
+fn reply_to_error(error: LineError) -> Reply
+    ensures { RepliesTo error result }
+{
+    match error {
+        LineError::NoMemory => Reply::NoMemory,
+        _ => Reply::BadLine { error },
     }
 }
 
 /// The reply to a line.
-fn reply_to(alloc: Global, dataset: &Dataset, base: &Base, line: &[u8]) -> Reply
-    requires dataset { IsDataset dataset.now }
-    requires base { IsBase dataset.now base.now }
-    ensures { (at : ℕ) → Answers dataset.now base.now (ingested dataset.now base.now at) (asked_plain line.now) result }
+fn reply_to(alloc: Global, words: &mut VecWords, line: &[u8]) -> Reply
+    requires image { (d : Dataset) × (b : Base) × (e : Entry) × Image d b (e ∷ []) words.old.words }
+    ensures same { words.new ≡ words.old }
+    ensures is { (d : Dataset) (b : Base) (e : Entry) → Image d b (e ∷ []) words.old.words → Answers d b (e ∷ []) (asked_line line.now) result }
 {
-    match read_plain_line(line) {
-        Some(sv) => root_of(alloc, dataset, base, sv),
-        None => Reply::NotBuilt,
+    match read_line(alloc, line) {
+        Ok(request) => reply_to_request(alloc, words, &request),
+        Err(error) => reply_to_error(error),
     }
 }
 
@@ -103,27 +103,36 @@ fn write_counted<K: Sink>(reply: &Reply, session: Session, out: &mut K) -> Sessi
 fn answer_line<K: Sink>(
     alloc: Global,
     ingest: &Ingest,
+    words: &mut VecWords,
     line: &[u8],
     session: Session,
     out: &mut K,
 ) -> Session
-    requires ingest { IsIngest ingest.now }
+    requires words { AreWords ingest.now words.old.words }
     requires room { session.lines + 1 < 2 ^ 32 }
     requires refused { session.refused ≤ session.lines }
-    ensures replies { Replies ingest.now.dataset ingest.now.base (log_of ingest.now) (asked_plain line.now) (K.held out.old) (K.held out.new) session result }
+    ensures same { words.new ≡ words.old }
+    ensures replies { Replies ingest.now.dataset ingest.now.base (log_of ingest.now) (asked_line line.now) (K.held out.old) (K.held out.new) session result }
     ensures cause { IsTrue result.failed → Rose (K.faults out.old) (K.faults out.new) }
     ensures later { K.faults out.old ≤ K.faults out.new }
     ensures few { (result.lines ≤ session.lines + 1) × (result.refused ≤ result.lines) }
 {
-    let reply = reply_to(alloc, &ingest.dataset, &ingest.base, line);
+    let reply = reply_to(alloc, words, line);
     write_counted(&reply, session, out)
 }
 
 /// Answers the lines of a request stream, each before the next, and stops where the writing of a
 /// reply fails.
-pub fn serve<K: Sink>(alloc: Global, ingest: &Ingest, stream: &[u8], out: &mut K) -> Session
-    requires ingest { IsIngest ingest.now }
+pub fn serve<K: Sink>(
+    alloc: Global,
+    ingest: &Ingest,
+    words: &mut VecWords,
+    stream: &[u8],
+    out: &mut K,
+) -> Session
+    requires words { AreWords ingest.now words.old.words }
     requires size { length stream.now < 2 ^ 32 }
+    ensures same { words.new ≡ words.old }
     ensures did { Did ingest.now.dataset ingest.now.base (log_of ingest.now) (asked_of stream.now) (K.held out.old) (K.held out.new) result }
     ensures cause { IsTrue result.failed → Rose (K.faults out.old) (K.faults out.new) }
     ensures later { K.faults out.old ≤ K.faults out.new }
@@ -135,7 +144,7 @@ pub fn serve<K: Sink>(alloc: Global, ingest: &Ingest, stream: &[u8], out: &mut K
     };
     let mut rest = stream;
     while let Some((line, next)) = split_line(rest) {
-        session = answer_line(alloc, ingest, line, session, out);
+        session = answer_line(alloc, ingest, words, line, session, out);
         if session.failed {
             return session;
         }

@@ -5,7 +5,7 @@ ghost use Rattle.std.specs.Io.KnownBytes.{Appends};
 ghost use Rattle.pcg_base.specs.Causes.{HasCause};
 ghost use Rattle.pcg_base.specs.Told.{AppendsFront};
 ghost use Rattle.request_lines.specs.Sent.{Puts};
-ghost use Rattle.pcg_serve.specs.Texts.{file_name, of_file, of_table, stop_text};
+ghost use Rattle.pcg_serve.specs.Texts.{file_name, of_capacity, of_chunk, of_file, of_table, stop_text};
 ghost use Rattle.table_ingest.specs.Faults.{cause_name, table_name};
 ghost use Rattle.pcg_serve.specs.Statuses.{status_of};
 
@@ -53,6 +53,19 @@ pub enum Stop {
         row: u64,
         cause: Cause,
     },
+    /// A chunk of the base has more nodes than its ids have numbers. It is the first such chunk by
+    /// layer, x, y and z.
+    IdsSpent {
+        layer: u8,
+        x: u32,
+        y: u32,
+        z: u32,
+    },
+    /// The base and its first entry need more records than the capacity, which is `given`.
+    TooSmall {
+        need: u64,
+        given: u32,
+    },
     /// The input is of a form that the program doesn't take yet.
     NotBuilt,
     /// Memory ran out.
@@ -70,6 +83,8 @@ impl Stop {
             Stop::WriteFault { .. } => 4,
             Stop::TooLong { .. } => 7,
             Stop::BadTable { .. } => 3,
+            Stop::IdsSpent { .. } => 6,
+            Stop::TooSmall { .. } => 6,
             Stop::NotBuilt => 8,
             Stop::NoMemory => 5,
         }
@@ -124,6 +139,28 @@ fn put_record<K: Sink>(page: &mut Page, out: &mut K, table: Table, row: u64, cau
     page.put(out, b"}\n");
 }
 
+/// Puts the fault line of a chunk with too many nodes.
+fn put_spent<K: Sink>(page: &mut Page, out: &mut K, layer: u8, x: u32, y: u32, z: u32)
+    ensures { Puts (K.held out.old) (K.held out.new) (K.faults out.old) (K.faults out.new) page.old page.new (of_chunk layer x y z) }
+{
+    page.put_word(out, b"{\"fault\":", b"IdsSpent");
+    page.put_number(out, b",\"layer\":", layer as u64);
+    page.put_number(out, b",\"x\":", x as u64);
+    page.put_number(out, b",\"y\":", y as u64);
+    page.put_number(out, b",\"z\":", z as u64);
+    page.put(out, b"}\n");
+}
+
+/// Puts the fault line of a base that needs too many records.
+fn put_small<K: Sink>(page: &mut Page, out: &mut K, need: u64, given: u32)
+    ensures { Puts (K.held out.old) (K.held out.new) (K.faults out.old) (K.faults out.new) page.old page.new (of_capacity need given) }
+{
+    page.put_word(out, b"{\"fault\":", b"TooSmall");
+    page.put_number(out, b",\"given\":", given as u64);
+    page.put_number(out, b",\"need\":", need);
+    page.put(out, b"}\n");
+}
+
 /// Puts the fault line of a stop.
 #[tactic(auto, unfolding(crate::specs::Texts::stop_text))]
 fn put_stop<K: Sink>(page: &mut Page, out: &mut K, stop: Stop)
@@ -135,6 +172,8 @@ fn put_stop<K: Sink>(page: &mut Page, out: &mut K, stop: Stop)
         Stop::WriteFault { client, file } => put_file(page, out, client, b"WriteFault", file),
         Stop::TooLong { client, file } => put_file(page, out, client, b"TooLong", file),
         Stop::BadTable { table, row, cause } => put_record(page, out, table, row, cause),
+        Stop::IdsSpent { layer, x, y, z } => put_spent(page, out, layer, x, y, z),
+        Stop::TooSmall { need, given } => put_small(page, out, need, given),
         Stop::NotBuilt => page.put(out, b"{\"fault\":\"NotBuilt\"}\n"),
         Stop::NoMemory => page.put(out, b"{\"fault\":\"NoMemory\"}\n"),
     }

@@ -1,13 +1,13 @@
 //! The tables of a job, read from a place.
 
-ghost use Rattle.std.specs.Prelude.{◌≡◌, ◌≢◌, ◌≤◌, ℕ, List, IfOk, IfErr, OnOk};
+ghost use Rattle.std.specs.Prelude.{◌≡◌, ◌≢◌, ◌≤◌, ℕ, List, length, IfOk, IfErr, OnOk};
 ghost use Rattle.pcg_base.specs.Told.{KeepsFiles};
 ghost use Rattle.pcg_words.specs.Job.{IsJob};
 ghost use Rattle.pcg_serve.specs.Causes.{IsLater, TableStop, TablesRead, TablesStop, WasRead};
-ghost use Rattle.pcg_serve.specs.Ingests.{IsIngest};
+ghost use Rattle.pcg_serve.specs.Ingests.{AreWords, IsIngest};
 ghost use Rattle.pcg_serve.specs.Jobs.{HasBase, HasTable, dataset_of};
 
-use crate::ingest::{Ingest, make_ingest};
+use crate::ingest::{Begun, make_ingest};
 use crate::stops::{FileName, Stop};
 use pcg_base::{Place, ReadError, read_name};
 use pcg_words::{Name, RehearseJob};
@@ -24,6 +24,7 @@ fn read_table<P: Place>(
     file: FileName,
 ) -> Result<Vec<u8>, Stop>
     ensures table { IfOk result (λ t. HasTable (P.files place.old) name.now t.items) }
+    ensures size { IfOk result (λ t. length t.items ≤ 1073741824) }
     ensures whole { OnOk result (WasRead (P.files place.old) (P.left_at place.new) name.now) }
     ensures stop { IfErr result (λ stop. TableStop (P.files place.old) name.now file (record { reads = P.read_faults place.old; writes = P.write_faults place.old; counts = P.counts place.old }) (record { reads = P.read_faults place.new; writes = P.write_faults place.new; counts = P.counts place.new }) stop) }
     ensures later { IsLater (record { reads = P.read_faults place.old; writes = P.write_faults place.old; counts = P.counts place.old }) (record { reads = P.read_faults place.new; writes = P.write_faults place.new; counts = P.counts place.new }) }
@@ -45,11 +46,12 @@ pub fn read_tables<P: Place>(
     alloc: Global,
     job: &RehearseJob,
     place: &mut P,
-) -> Result<Ingest, Stop>
+) -> Result<Begun, Stop>
     requires { IsJob job.now }
-    ensures made { IfOk result (λ i. IsIngest i) }
-    ensures dataset { IfOk result (λ i. i.dataset ≡ dataset_of job.now) }
-    ensures base { IfOk result (λ i. HasBase (P.files place.old) job.now i.base) }
+    ensures made { IfOk result (λ b. IsIngest b.ingest) }
+    ensures words { IfOk result (λ b. AreWords b.ingest b.words.words) }
+    ensures dataset { IfOk result (λ b. b.ingest.dataset ≡ dataset_of job.now) }
+    ensures base { IfOk result (λ b. HasBase (P.files place.old) job.now b.ingest.base) }
     ensures read { OnOk result (TablesRead (P.files place.old) (P.left_at place.new) job.now) }
     ensures stop { IfErr result (λ stop. TablesStop (P.files place.old) (P.left_at place.new) job.now (record { reads = P.read_faults place.old; writes = P.write_faults place.old; counts = P.counts place.old }) (record { reads = P.read_faults place.new; writes = P.write_faults place.new; counts = P.counts place.new }) stop) }
     ensures later { IsLater (record { reads = P.read_faults place.old; writes = P.write_faults place.old; counts = P.counts place.old }) (record { reads = P.read_faults place.new; writes = P.write_faults place.new; counts = P.counts place.new }) }
