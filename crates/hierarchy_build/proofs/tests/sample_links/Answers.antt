@@ -11,13 +11,15 @@ use Rattle.hierarchy_build.specs.Links.{AreBuilt}
 use Rattle.hierarchy_build.proofs.tests.sample_links.Goals as goal
 
 sample_built : (d : Dataset) (b : Base) (ls now : List Layer) → d ≡ data_a → b ≡ base → ((at : ℕ) → AreLayers d b (ingested d b at) 2 ls) → length ls ≡ top d - 1 → now ≡ ls → (d : Dataset) × AreBuilt d b now
-sample_built d b ls now e f are count same =
-    (d, subst (AreBuilt d b) (sym same) (record {
-      dataset = dataset_of d e;
-      base = base_of d b e f;
-      layers = are;
-      count = count;
-    }))
+sample_built d b ls now e f are count same = (
+  d,
+  subst (AreBuilt d b) (sym same) (record {
+    dataset = dataset_of d e;
+    base = base_of d b e f;
+    layers = are;
+    count = count;
+  }),
+)
 
 pub build_layers-requires-clause-base : goal.build_layers-requires-clause-base
 build_layers-requires-clause-base g c = base_of c.in-Some.dataset c.in-Some-base.base c.in-Some.ensures c.in-Some-base.ensures
