@@ -23,7 +23,7 @@ use Rattle.record_rows.proofs.OnceLemmas.{ascending_differ, layers_low, nodes_on
 use Rattle.base_rows.specs.Lists.{IsOnce}
 use Rattle.plain_hierarchy.specs.Ingest.{ingested}
 
-abbrev Other : ℕ → ℕ → Type 0
+abbrev pub Other : ℕ → ℕ → Type 0
 Other i j = i ≡ j → ⊥
 
 at_all : (P : ℕ → Type 0) (xs : List ℕ) (i : ℕ) → AllByRecursion P xs → i < length xs → P (get_or xs i 0)
@@ -31,16 +31,19 @@ at_all P [] i a l = absurd (omega arith)
 at_all P (x ∷ xs) zero a l = a.0
 at_all P (x ∷ xs) (suc i) a l = at_all P xs i a.1 (omega arith)
 
-once : (xs : List ℕ) → Differ Other xs → IsOnce xs
+pub once : (xs : List ℕ) → Differ Other xs → IsOnce xs
 once [] d i j l m e = absurd (omega arith)
 once (x ∷ xs) d zero zero l m e = refl
 once (x ∷ xs) d zero (suc j) l m e = absurd (at_all (Other x) xs j d.0 (omega arith) e)
 once (x ∷ xs) d (suc i) zero l m e = absurd (at_all (Other x) xs i d.0 (omega arith) (sym e))
 once (x ∷ xs) d (suc i) (suc j) l m e = ap suc (once xs d.1 i j (omega arith) (omega arith) e)
 
-pub supervoxels_once : (b : Base) (d : Dataset) → IsBase d b → Differ Other b.supervoxels
-supervoxels_once b d base =
+supervoxels_differ : (d : Dataset) (b : Base) → IsBase d b → Differ Other b.supervoxels
+supervoxels_differ d b base =
     differ_more (λ i. Unit {0}) (λ i j. i < j) Other b.supervoxels (λ i j p q l e. omega arith) (all_each (λ i. Unit {0}) b.supervoxels (λ i. tt)) (ascending_differ b.supervoxels base.ascending)
+
+pub supervoxels_once : (d : Dataset) (b : Base) → IsBase d b → IsOnce b.supervoxels
+supervoxels_once d b base = once b.supervoxels (supervoxels_differ d b base)
 
 module _ (d : Dataset) (b : Base) (valid : IsDataset d) (base : IsBase d b) (now : ℕ) (fit : LabelsFit d b (ingested d b now)) where
   -- the time of the entry is not in its nodes
@@ -71,11 +74,14 @@ module _ (d : Dataset) (b : Base) (valid : IsDataset d) (base : IsBase d b) (now
       omega (arith, e, two))
       (layer_made d b valid base (ingested d b 0) 0 l)) (layers_low d))
 
+  pub nodes_stand_once : IsOnce (map (λ n. n.id) (new_nodes d b (ingested d b now) 0))
+  nodes_stand_once = subst (λ ns. IsOnce (map (λ (n : Node). n.id) ns)) same_nodes (once (map (λ (n : Node). n.id) (new_nodes d b (ingested d b 0) 0)) nodes_differ)
+
   pub owners_once : IsOnce (b.supervoxels ++ map (λ n. n.id) (new_nodes d b (ingested d b now) 0))
   owners_once =
       let ids : List ℕ = map (λ (n : Node). n.id) (new_nodes d b (ingested d b 0) 0) in
       subst (λ ns. IsOnce (b.supervoxels ++ map (λ (n : Node). n.id) ns)) same_nodes
-      (once (b.supervoxels ++ ids) (differ_append Other b.supervoxels ids (supervoxels_once b d base) nodes_differ
+      (once (b.supervoxels ++ ids) (differ_append Other b.supervoxels ids (supervoxels_differ d b base) nodes_differ
       (all_more (λ v. (parts_of d.layout v).layer ≡ 1) (λ v. AllByRecursion (Other v) ids) b.supervoxels
       (λ v one. all_map (λ (n : Node). n.id) (Other v) (new_nodes d b (ingested d b 0) 0)
       (all_more (λ (n : Node). 2 ≤ (parts_of d.layout n.id).layer) (λ (n : Node). v ≡ n.id → ⊥) (new_nodes d b (ingested d b 0) 0)

@@ -53,7 +53,7 @@ module _ (d : Dataset) (b : Base) (valid : IsDataset d) where
       all_ascending (λ i. (v : ℕ) × (i ≡ chunk d l v)) (map (chunk d l) b.supervoxels)
       (all_map (chunk d l) (λ i. (v : ℕ) × (i ≡ chunk d l v)) b.supervoxels (all_each (λ w. (v : ℕ) × (chunk d l w ≡ chunk d l v)) b.supervoxels (λ w. (w, refl))))
 
-  chunks_differ : Differ (λ i j. i ≡ j → ⊥) (chunks d b)
+  pub chunks_differ : Differ (λ i j. i ≡ j → ⊥) (chunks d b)
   unfolding chunks layer_chunks
   chunks_differ =
       differ_flat (layer_chunks d b) (λ l. (has (layers d) l ≡ true) × (l < 2 ^ 8)) (λ l k. l < k) (λ i j. i ≡ j → ⊥) (layers d)
@@ -64,7 +64,7 @@ module _ (d : Dataset) (b : Base) (valid : IsDataset d) where
       (layers_low d) (layers_differ d)
 
   -- no chunk is of two layers
-  chunks_counted : length (chunks d b) ≡ length (ascending (flat_map (λ l. map (chunk d l) b.supervoxels) (layers d)))
+  pub chunks_counted : length (chunks d b) ≡ length (ascending (flat_map (λ l. map (chunk d l) b.supervoxels) (layers d)))
   unfolding chunks layer_chunks
   chunks_counted =
       let all : List ℕ = flat_map (λ l. map (chunk d l) b.supervoxels) (layers d) in

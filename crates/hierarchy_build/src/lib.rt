@@ -4,7 +4,8 @@
 //! active edges whose ends first come into one chunk in it (Dorkenwald et al. 2022). The promise: for
 //! each layer [`build_layers`] gives the least leaf of each supervoxel's node, and the nodes in the
 //! order of their records, with the ids that the model gives them; and if a chunk has more nodes than
-//! ids, it names the first such chunk.
+//! ids, it names the first such chunk. From the layers [`base_links`] gives the links of all nodes to
+//! their children in the order of their records, and [`records_of`] how many records there are.
 //!
 //! A supervoxel is told by its place in the base's ascending list, and a node by the place of its
 //! least leaf. So a layer is one list of places, and the next layer is that list led on through the
