@@ -13,6 +13,9 @@ use Rattle.pcg_words.specs.declared.job.RehearseJob.{RehearseJob}
 use Rattle.pcg_words.specs.declared.job.Job.{Job}
 use Rattle.pcg_words.specs.declared.job.Job.TheVariants as jobs
 use Rattle.pcg_words.specs.Job.{request_file}
+use Rattle.hierarchy_build.specs.declared.errors.BuildError.{BuildError}
+use Rattle.hierarchy_build.specs.declared.errors.BuildError.TheVariants as builds
+use Rattle.hierarchy_build.specs.Built.{IsFull}
 use Rattle.table_ingest.specs.Bases.{Faulty, Spells}
 use Rattle.table_ingest.specs.declared.errors.Table.{Table}
 use Rattle.table_ingest.specs.declared.errors.Cause.{Cause}
@@ -23,8 +26,8 @@ use Rattle.pcg_serve.specs.declared.stops.Stop.TheVariants as stops
 use Rattle.pcg_serve.specs.declared.summary.Fault.{Fault}
 use Rattle.pcg_serve.specs.declared.summary.Fault.TheVariants as faults
 use Rattle.pcg_serve.specs.Statuses.{status_of}
-use Rattle.pcg_serve.specs.Jobs.{HasBase, HasTable, IsLarge, TablesAre, dataset_of, table_limit}
-use Rattle.pcg_serve.specs.Causes.{HasFault, HasLong, HasLongTable, HasSomeBase, IsDue, IsUnbuilt, Seen, StatusSo, StopCause, StopsOnly, TablesStop, has_one_client}
+use Rattle.pcg_serve.specs.Jobs.{HasBase, HasTable, TablesAre, dataset_of, table_limit}
+use Rattle.pcg_serve.specs.Causes.{HasFault, HasLong, HasBuiltBase, HasFullBase, HasLongTable, IsDue, IsFullSo, IsUnbuilt, Seen, StatusSo, StopCause, StopsOnly, TablesStop, has_one_client}
 use Rattle.pcg_serve.specs.Headline.{CamePast, IsQuiet, JobOutcome, OnlyClientEnds, Outcome, fault_status}
 
 -- the status is the one that is asked for, or that of a fault or of want of memory
@@ -64,11 +67,25 @@ one_base m job b c h k =
     let E : List ℕ → Type 0 = λ x. Spells d h.0 x c in
     bases_are_one d h.0 h.1 b c h.3 (subst E (one_file m job.edges k.1 h.1 k.2.1.0 h.2.1.0) (subst S (one_file m job.supervoxels k.0 h.0 k.2.0.0 h.2.0.0) k.3))
 
--- the tables of an input that isn't taken yet, where it has one client, spell a base
-some_base : (m : Files) (job : RehearseJob) → has_one_client job ≡ true → IsUnbuilt (Some m) job → HasSomeBase (Some m) job
+-- the tables of an input that isn't taken yet, where it has one client, spell a base whose records can be had
+some_base : (m : Files) (job : RehearseJob) → has_one_client job ≡ true → IsUnbuilt (Some m) job → HasBuiltBase (Some m) job
 some_base m job one (inl many) = absurd (both (has_one_client job) one many)
-some_base m job one (inr (inl large)) = (large.0, large.1)
-some_base m job one (inr (inr long)) = long.0
+some_base m job one (inr long) = long.0
+
+-- they don't spell one whose records can't
+not_full : (m : Files) (job : RehearseJob) (b : Base) → HasBase (Some m) job b → ((e : BuildError) → IsFull (dataset_of job) b e → ⊥) → HasFullBase (Some m) job → ⊥
+not_full m job b h fits full =
+    let F : Base → Type 0 = λ x. IsFull (dataset_of job) x full.0 in
+    fits full.0 (subst F (one_base m job full.1.0 b full.1.1 h) full.1.2)
+
+-- a call that stopped for a base whose records can't be had
+full_stopped : (m : Files) (job : RehearseJob) (error : BuildError) → has_one_client job ≡ true → IsFullSo (Some m) job error → (s : ℕ) → IsDue (Some m) job s → Ends 6 s
+full_stopped m job error one t s (inl (sole, inl (e, bad))) = absurd (no_fault m job t.0 bad.0 bad.1 bad.2 t.1 bad.3)
+full_stopped m job error one t s (inl (sole, inr (inl (e, long)))) = absurd (none_long m job t.1.0 t.1.1 t.1.2 long)
+full_stopped m job error one t s (inl (sole, inr (inr (e, full)))) = inl (sym e)
+full_stopped m job error one t s (inr (e, unbuilt)) =
+    let h = some_base m job one unbuilt in
+    absurd (not_full m job h.0 h.1 h.2 (error, t))
 
 tables_stopped : (m : Files) (left : List ℕ → List ℕ) (job : RehearseJob) (old new : Seen) (stop : Stop) → has_one_client job ≡ true → TablesStop (Some m) left job old new stop
     → (s : ℕ) → IsDue (Some m) job s → Ends (status_of stop) s
@@ -93,20 +110,22 @@ tables_stopped m left job old new (stops.TooLong client file) one t s d = go (is
 
     go : (name : List ℕ) × IsLongerAt (Some m) name table_limit × ((x y : List ℕ) → TablesAre m job x y → HasTable (Some m) name x ⊎ HasTable (Some m) name y) → IsDue (Some m) job s → Ends 7 s
     go long (inl (sole, inl (e, bad))) = absurd (never long bad.3.0 bad.3.1 bad.3.2)
-    go long (inl (sole, inr (e, other))) = inl (sym e)
+    go long (inl (sole, inr (inl (e, other)))) = inl (sym e)
+    go long (inl (sole, inr (inr (e, full)))) = absurd (never long full.1.1.0 full.1.1.1 full.1.1.2)
     go long (inr (e, unbuilt)) =
         let h = some_base m job one unbuilt in
         absurd (never long h.1.0 h.1.1 h.1.2)
 tables_stopped m left job old new (stops.BadTable table row cause) one t s (inl (sole, inl (e, bad))) = inl (sym e)
-tables_stopped m left job old new (stops.BadTable table row cause) one t s (inl (sole, inr (e, long))) = absurd (none_long m job t.0.0 t.0.1 t.0.2 long)
+tables_stopped m left job old new (stops.BadTable table row cause) one t s (inl (sole, inr (inl (e, long)))) = absurd (none_long m job t.0.0 t.0.1 t.0.2 long)
+tables_stopped m left job old new (stops.BadTable table row cause) one t s (inl (sole, inr (inr (e, full)))) = absurd (no_fault m job full.1.0 table row cause full.1.1 t.0)
 tables_stopped m left job old new (stops.BadTable table row cause) one t s (inr (e, unbuilt)) =
     let h = some_base m job one unbuilt in
     absurd (no_fault m job h.0 table row cause h.1 t.0)
-tables_stopped m left job old new stops.NotBuilt one t s (inl (sole, inl (e, bad))) = absurd (no_fault m job t.0.0 bad.0 bad.1 bad.2 t.0.1 bad.3)
-tables_stopped m left job old new stops.NotBuilt one t s (inl (sole, inr (e, long))) = absurd (none_long m job t.0.1.0 t.0.1.1 t.0.1.2 long)
-tables_stopped m left job old new stops.NotBuilt one t s (inr (e, unbuilt)) = inl (sym e)
+tables_stopped m left job old new (stops.IdsSpent layer x y z) one t s d = full_stopped m job (builds.IdsSpent layer x y z) one t.0 s d
+tables_stopped m left job old new (stops.TooSmall need given) one t s d = full_stopped m job (builds.TooSmall need given) one t.0 s d
+tables_stopped m left job old new stops.NotBuilt one t s d = absurd t
 
-client_stopped : (m : Files) (m' : Option Files) (left : List ℕ → List ℕ) (job : RehearseJob) (stems : List (List ℕ)) (old new : Seen) (stop : Stop) → HasSomeBase (Some m) job → StopsOnly (Some m) m' left stems old new stop
+client_stopped : (m : Files) (m' : Option Files) (left : List ℕ → List ℕ) (job : RehearseJob) (stems : List (List ℕ)) (old new : Seen) (stop : Stop) → HasBuiltBase (Some m) job → StopsOnly (Some m) m' left stems old new stop
     → (s : ℕ) → IsDue (Some m) job s → Ends (status_of stop) s
 client_stopped m m' left job [] old new stop base t s d = absurd t
 client_stopped m m' left job (stem ∷ stems) old new (stops.ReadFault client file) base t s d = inr (inl refl)
@@ -115,8 +134,11 @@ client_stopped m m' left job (stem ∷ stems) old new stops.NoMemory base t s d 
 client_stopped m m' left job (stem ∷ stems) old new stops.BadWords base t s d = absurd t
 client_stopped m m' left job (stem ∷ stems) old new (stops.TooLong client file) base t s d = absurd t
 client_stopped m m' left job (stem ∷ stems) old new (stops.BadTable table row cause) base t s d = absurd t
+client_stopped m m' left job (stem ∷ stems) old new (stops.IdsSpent layer x y z) base t s d = absurd t
+client_stopped m m' left job (stem ∷ stems) old new (stops.TooSmall need given) base t s d = absurd t
 client_stopped m m' left job (stem ∷ stems) old new stops.NotBuilt base t s (inl (sole, inl (e, bad))) = absurd (no_fault m job base.0 bad.0 bad.1 bad.2 base.1 bad.3)
-client_stopped m m' left job (stem ∷ stems) old new stops.NotBuilt base t s (inl (sole, inr (e, long))) = absurd (none_long m job base.1.0 base.1.1 base.1.2 long)
+client_stopped m m' left job (stem ∷ stems) old new stops.NotBuilt base t s (inl (sole, inr (inl (e, long)))) = absurd (none_long m job base.1.0 base.1.1 base.1.2 long)
+client_stopped m m' left job (stem ∷ stems) old new stops.NotBuilt base t s (inl (sole, inr (inr (e, full)))) = absurd (not_full m job base.0 base.1 base.2 full)
 client_stopped m m' left job (stem ∷ stems) old new stops.NotBuilt base t s (inr (e, unbuilt)) = inl (sym e)
 
 stopped : (m : Files) (m' : Option Files) (left : List ℕ → List ℕ) (job : RehearseJob) (old new : Seen) (stop : Stop) → StopCause (Some m) m' left job old new stop → (s : ℕ) → IsDue (Some m) job s → Ends (status_of stop) s
@@ -139,12 +161,10 @@ not_many d b log m (Some after) left (stem ∷ stems) lines refused h long =
 not_due : (m : Files) (files' : Option Files) (left : List ℕ → List ℕ) (job : RehearseJob) (old new : Seen) (printed : List ℕ) (ended : ℕ) (p : CamePast (Some m) files' left job old new printed ended)
     → p.fault ≡ None → (s : ℕ) → IsDue (Some m) job s → ⊥
 not_due m files' left job old new printed ended p none s (inl (sole, inl (e, bad))) = no_fault m job p.base bad.0 bad.1 bad.2 p.has_base bad.3
-not_due m files' left job old new printed ended p none s (inl (sole, inr (e, long))) = none_long m job p.has_base.0 p.has_base.1 p.has_base.2 long
+not_due m files' left job old new printed ended p none s (inl (sole, inr (inl (e, long)))) = none_long m job p.has_base.0 p.has_base.1 p.has_base.2 long
+not_due m files' left job old new printed ended p none s (inl (sole, inr (inr (e, full)))) = not_full m job p.base p.has_base p.fits full
 not_due m files' left job old new printed ended p none s (inr (e, inl many)) = both (has_one_client job) p.only many
-not_due m files' left job old new printed ended p none s (inr (e, inr (inl large))) =
-    let L : Base → Type 0 = λ b. IsLarge b in
-    p.small (subst L (one_base m job large.0 p.base large.1 p.has_base) large.2)
-not_due m files' left job old new printed ended p none s (inr (e, inr (inr long))) =
+not_due m files' left job old new printed ended p none s (inr (e, inr long)) =
     let F : Option Fault → Type 0 = λ f. OnlyClientEnds (dataset_of job) p.base p.log (Some m) files' left job.stems f p.lines p.refused in
     not_many (dataset_of job) p.base p.log m files' left job.stems p.lines p.refused (subst F none p.client) long.1
 
@@ -183,17 +203,22 @@ job_outcome files files' left j found old new held held' outs outs' status e o =
     subst P (sym e) (inl o)
 
 -- where no count rose, a status that has its cause is that of a call that is done, or of want of memory
-pub complete_so : (Bad Long Unbuilt : Type 0) (status reads reads' writes writes' outs outs' : ℕ) → (status ≡ 0) ⊎ (status ≡ 2) ⊎ (status ≡ 4) ⊎ (status ≡ 3) ⊎ (status ≡ 5) ⊎ (status ≡ 7) ⊎ (status ≡ 8)
-    → (status ≡ 2 → Rose reads reads') → (status ≡ 4 → Rose writes writes' ⊎ Rose outs outs') → (status ≡ 3 → Bad) → (status ≡ 7 → Long) → (status ≡ 8 → Unbuilt)
-    → IsQuiet reads reads' writes writes' outs outs' → ¬ Unbuilt → ¬ Long → ¬ Bad → (status ≡ 0) ⊎ (status ≡ 5)
-complete_so Bad Long Unbuilt status reads reads' writes writes' outs outs' (inl e) r w b l u quiet no_unbuilt no_long no_bad = inl e
-complete_so Bad Long Unbuilt status reads reads' writes writes' outs outs' (inr (inl e)) r w b l u quiet no_unbuilt no_long no_bad = absurd (quiet.0 (r e))
-complete_so Bad Long Unbuilt status reads reads' writes writes' outs outs' (inr (inr (inl e))) r w b l u quiet no_unbuilt no_long no_bad = absurd (never (w e))
+pub complete_so : (Bad Long Unbuilt Full : Type 0) (status reads reads' writes writes' outs outs' : ℕ)
+    → (status ≡ 0) ⊎ (status ≡ 2) ⊎ (status ≡ 4) ⊎ (status ≡ 3) ⊎ (status ≡ 5) ⊎ (status ≡ 7) ⊎ (status ≡ 8) ⊎ (status ≡ 6)
+    → (status ≡ 2 → Rose reads reads') → (status ≡ 4 → Rose writes writes' ⊎ Rose outs outs') → (status ≡ 3 → Bad) → (status ≡ 7 → Long) → (status ≡ 8 → Unbuilt) → (status ≡ 6 → Full)
+    → IsQuiet reads reads' writes writes' outs outs' → ¬ Unbuilt → ¬ Long → ¬ Bad → ¬ Full → (status ≡ 0) ⊎ (status ≡ 5)
+complete_so Bad Long Unbuilt Full status reads reads' writes writes' outs outs' known r w b l u f quiet no_unbuilt no_long no_bad no_full = go known
   where
     never : Rose writes writes' ⊎ Rose outs outs' → ⊥
     never (inl h) = quiet.1 h
     never (inr h) = quiet.2 h
-complete_so Bad Long Unbuilt status reads reads' writes writes' outs outs' (inr (inr (inr (inl e)))) r w b l u quiet no_unbuilt no_long no_bad = absurd (no_bad (b e))
-complete_so Bad Long Unbuilt status reads reads' writes writes' outs outs' (inr (inr (inr (inr (inl e))))) r w b l u quiet no_unbuilt no_long no_bad = inr e
-complete_so Bad Long Unbuilt status reads reads' writes writes' outs outs' (inr (inr (inr (inr (inr (inl e)))))) r w b l u quiet no_unbuilt no_long no_bad = absurd (no_long (l e))
-complete_so Bad Long Unbuilt status reads reads' writes writes' outs outs' (inr (inr (inr (inr (inr (inr e)))))) r w b l u quiet no_unbuilt no_long no_bad = absurd (no_unbuilt (u e))
+
+    go : (status ≡ 0) ⊎ (status ≡ 2) ⊎ (status ≡ 4) ⊎ (status ≡ 3) ⊎ (status ≡ 5) ⊎ (status ≡ 7) ⊎ (status ≡ 8) ⊎ (status ≡ 6) → (status ≡ 0) ⊎ (status ≡ 5)
+    go (inl e) = inl e
+    go (inr (inl e)) = absurd (quiet.0 (r e))
+    go (inr (inr (inl e))) = absurd (never (w e))
+    go (inr (inr (inr (inl e)))) = absurd (no_bad (b e))
+    go (inr (inr (inr (inr (inl e))))) = inr e
+    go (inr (inr (inr (inr (inr (inl e)))))) = absurd (no_long (l e))
+    go (inr (inr (inr (inr (inr (inr (inl e))))))) = absurd (no_unbuilt (u e))
+    go (inr (inr (inr (inr (inr (inr (inr e))))))) = absurd (no_full (f e))

@@ -18,7 +18,8 @@ use Rattle.op_model.specs.Legal.{Legal}
 use Rattle.op_model.proofs.RootLemmas.{roots_joined}
 use Rattle.pcg_serve.proofs.Leaves.{leaf_only, leaf_has}
 use Rattle.pcg_serve.proofs.Causing.{caused}
-use Rattle.plain_hierarchy.proofs.Fitting.{legal_small}
+use Rattle.hierarchy_build.specs.declared.errors.BuildError.{BuildError}
+use Rattle.hierarchy_build.specs.Built.{IsFull}
 use Rattle.request_lines.specs.Texts.{entry_text}
 use Rattle.pcg_base.specs.Told.{Files, KeepsFiles}
 use Rattle.pcg_words.specs.declared.job.RehearseJob.{RehearseJob}
@@ -29,15 +30,13 @@ use Rattle.pcg_serve.specs.declared.ingest.Ingest.{Ingest}
 use Rattle.pcg_serve.specs.declared.session.Session.{Session}
 use Rattle.pcg_serve.specs.declared.summary.Summary.{Summary}
 use Rattle.pcg_serve.specs.Ingests.{IsIngest, log_of}
-use Rattle.pcg_serve.specs.Jobs.{HasBase, IsLarge, dataset_of}
+use Rattle.pcg_serve.specs.Jobs.{HasBase, dataset_of}
 use Rattle.pcg_serve.specs.Sessions.{refuses}
 use Rattle.pcg_serve.specs.Texts.{summary_line, summary_text}
 use Rattle.pcg_serve.specs.Headline.{log_text, live_roots, reply_count, refusal_count, answered, RootsAreJoined, LeavesAreJoined, History, DoneAt, IsDone, ClientDone, ClientDoneAt, ClientEndAt, OnlyClientEnds, CamePast, FaultCause, faults_of, fault_status}
 
 legal_of : (i : Ingest) → IsIngest i → Legal i.dataset i.base (log_of i)
-legal_of i ok =
-    let P : Entry → Type 0 = λ e. Legal i.dataset i.base (e ∷ []) in
-    subst P (sym ok.entry) (legal_small i.dataset i.base i.entry.at ok.dataset ok.small.0 ok.time)
+legal_of i ok = ok.legal
 
 -- a log of one entry has one prefix
 prefix_of : (e : Entry) (t : ℕ) → first_at (e ∷ []) ≤ t → prefix_at (e ∷ []) t ≡ e ∷ []
@@ -142,10 +141,6 @@ ends_only files f1 f2 left stem job i fault lines refused made kept one ends =
         let P : Option Files → Type 0 = λ x. ClientEndAt i.dataset i.base (log_of i) x f2 (left (request_file stem)) stem fault lines refused in
         subst P k ends
 
-not_large : (b : Base) → (length b.supervoxels ≤ 255) × (length b.edges ≤ 1000) → ¬ (IsLarge b)
-not_large b h (inl more) = omega (arith, h.0, more)
-not_large b h (inr more) = omega (arith, h.1, more)
-
 pub came_past : (files f1 f2 : Option Files) (left : List ℕ → List ℕ) (stem : List ℕ) (job : RehearseJob) (i : Ingest) (fault : Option Fault) (summary : Summary) (a b c : Seen) → IsIngest i → i.dataset ≡ dataset_of job → HasBase files job i.base → TablesRead files left job
     → KeepsFiles files f1 → has_one_client job ≡ true → job.stems ≡ stem ∷ [] → ClientEndAt i.dataset i.base (log_of i) f1 f2 (left (request_file stem)) stem fault summary.lines summary.refused
     → IsLater a b → FaultCause fault stem b c
@@ -154,12 +149,13 @@ pub came_past : (files f1 f2 : Option Files) (left : List ℕ → List ℕ) (ste
     → CamePast files f2 left job a c (entry_text i.entry ++ summary_text summary) summary.status
 came_past files f1 f2 left stem job i fault summary a b c ok made base read kept sole one ends later why h0 h1 h2 h3 h5 h7 h8 =
     let L : Dataset → Type 0 = λ d. Legal d i.base (log_of i) in
+    let F : Dataset → Type 0 = λ d. (e : BuildError) → IsFull d i.base e → ⊥ in
     record {
       only = sole;
       base = i.base;
       has_base = base;
       read = read;
-      small = not_large i.base ok.small;
+      fits = subst F made ok.fits;
       log = log_of i;
       legal = subst L made (legal_of i ok);
       fault = fault;

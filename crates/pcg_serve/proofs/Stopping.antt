@@ -142,5 +142,7 @@ behind_tables f g h left stem job a b c stop e k later at =
     go (stops.WriteFault client files.Answers) x = (x.0, write_after a b c (answer_file stem) later x.1, opened_then f k x.2, kept_then x.3)
     go (stops.TooLong client file) x = absurd x
     go (stops.BadTable table row cause) x = absurd x
+    go (stops.IdsSpent layer u v w) x = absurd x
+    go (stops.TooSmall need given) x = absurd x
     go stops.NotBuilt x = (long_then f k x.0, emptied_then f k x.1)
     go stops.NoMemory x = either x

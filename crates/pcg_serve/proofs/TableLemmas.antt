@@ -1,6 +1,6 @@
 -- What the place's tables spell, and why they were not read.
 use Rattle.std.proofs.Common.{◌≡◌, ℕ, List, [], ◌∷◌, ◌++◌, Bool, true, false, Option, Some, None, bytes_eq, refl, sym, ◌∙◌, inl, inr, subst}
-use Rattle.pcg_serve.specs.declared.ingest.Ingest.{Ingest}
+use Rattle.pcg_serve.specs.declared.ingest.Begun.{Begun}
 use Rattle.std.specs.Prelude.{Result, Ok, Err, IfErr, IfOk, option_to_list, ◌≢◌, ◌||◌, ◌&&◌, not, IsTrue}
 use Rattle.std.proofs.lemmas.Bool.{false≢true}
 use Rattle.std.proofs.lemmas.Slice.Eq.{bytes_eq-Decides}
@@ -35,9 +35,9 @@ pub spelled : (old new : Option Files) (job : RehearseJob) (s e : List ℕ) (bas
 spelled None new job s e base k hs he m = tt
 spelled (Some f) new job s e base k hs he m = (s, e, (hs, kept (Some f) new job.edges e k he), m)
 
-pub spelled_so : (old new : Option Files) (job : RehearseJob) (s e : List ℕ) (r : Result Ingest Stop) → KeepsFiles old new
-    → HasTable old job.supervoxels s → HasTable new job.edges e → IfOk r (λ i. Spells (dataset_of job) s e i.base) → IfOk r (λ i. HasBase old job i.base)
-spelled_so old new job s e (Ok i) k hs he m = spelled old new job s e i.base k hs he m
+pub spelled_so : (old new : Option Files) (job : RehearseJob) (s e : List ℕ) (r : Result Begun Stop) → KeepsFiles old new
+    → HasTable old job.supervoxels s → HasTable new job.edges e → IfOk r (λ x. Spells (dataset_of job) s e x.ingest.base) → IfOk r (λ x. HasBase old job x.ingest.base)
+spelled_so old new job s e (Ok x) k hs he m = spelled old new job s e x.ingest.base k hs he m
 spelled_so old new job s e (Err stop) k hs he m = tt
 
 -- the supervoxels weren't read
@@ -88,14 +88,16 @@ third_stop old new left job s e a c (stops.BadTable table row cause) k hs he r m
     go : (f : Option Files) → KeepsFiles f new → HasTable f job.supervoxels s → HasFault f job table row cause
     go None k hs = tt
     go (Some f) k hs = (s, e, (hs, kept (Some f) new job.edges e k he), m)
-third_stop old new left job s e a c stops.NotBuilt k hs he r m = ((m.0, spelled old new job s e m.0 k hs he m.1, m.2), r)
+third_stop old new left job s e a c (stops.IdsSpent layer x y z) k hs he r m = ((m.0, spelled old new job s e m.0 k hs he m.1, m.2), r)
+third_stop old new left job s e a c (stops.TooSmall need given) k hs he r m = ((m.0, spelled old new job s e m.0 k hs he m.1, m.2), r)
+third_stop old new left job s e a c stops.NotBuilt k hs he r m = absurd m
 third_stop old new left job s e a c stops.NoMemory k hs he r m = tt
 third_stop old new left job s e a c stops.BadWords k hs he r m = absurd m
 third_stop old new left job s e a c (stops.ReadFault client file) k hs he r m = absurd m
 third_stop old new left job s e a c (stops.WriteFault client file) k hs he r m = absurd m
 third_stop old new left job s e a c (stops.TooLong client file) k hs he r m = absurd m
 
-pub third_so : (old new : Option Files) (left : List ℕ → List ℕ) (job : RehearseJob) (s e : List ℕ) (a c : Seen) (r : Result Ingest Stop) → KeepsFiles old new
+pub third_so : (old new : Option Files) (left : List ℕ → List ℕ) (job : RehearseJob) (s e : List ℕ) (a c : Seen) (r : Result Begun Stop) → KeepsFiles old new
     → HasTable old job.supervoxels s → HasTable new job.edges e → TablesRead old left job → IfErr r (λ stop. MakesStop (dataset_of job) s e stop) → IfErr r (λ stop. TablesStop old left job a c stop)
 third_so old new left job s e a c (Ok i) k hs he r m = tt
 third_so old new left job s e a c (Err stop) k hs he r m = third_stop old new left job s e a c stop k hs he r m

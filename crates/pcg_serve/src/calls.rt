@@ -3,7 +3,7 @@
 ghost use Rattle.std.specs.Prelude.{◌≡◌, ◌≢◌, ◌≤◌, ◌⊎◌, ℕ, Some, None};
 ghost use Rattle.pcg_base.specs.Causes.{Rose};
 ghost use Rattle.pcg_words.specs.Words.{MeetsMode, job_of};
-ghost use Rattle.pcg_serve.specs.Causes.{HasBadTableJob, HasLongTableJob, IsDueJob, IsUnbuiltJob};
+ghost use Rattle.pcg_serve.specs.Causes.{HasBadTableJob, HasFullBaseJob, HasLongTableJob, IsDueJob, IsUnbuiltJob};
 ghost use Rattle.pcg_serve.specs.Texts.{stop_text};
 ghost use Rattle.pcg_serve.specs.Headline.{IsJobDone, IsQuiet, JobOutcome, KeepsOthers, Prints, stems_of};
 
@@ -25,7 +25,7 @@ pub fn run<P: Place, C: Clock + Sync, G: Gate + Sync, K: Sink>(
     out: &mut K,
 ) -> u8
     ensures done { result ≡ 0 → IsJobDone (job_of words.now) (P.files place.old) (P.files place.new) (K.held out.old) (K.held out.new) }
-    ensures known { (result ≡ 0) ⊎ (result ≡ 1) ⊎ (result ≡ 2) ⊎ (result ≡ 4) ⊎ (result ≡ 3) ⊎ (result ≡ 5) ⊎ (result ≡ 7) ⊎ (result ≡ 8) }
+    ensures known { (result ≡ 0) ⊎ (result ≡ 1) ⊎ (result ≡ 2) ⊎ (result ≡ 4) ⊎ (result ≡ 3) ⊎ (result ≡ 5) ⊎ (result ≡ 7) ⊎ (result ≡ 8) ⊎ (result ≡ 6) }
     ensures bad_words { result ≡ 1 → job_of words.now ≡ None }
     ensures no_job { job_of words.now ≡ None → (result ≡ 1) ⊎ (result ≡ 5) }
     ensures read { result ≡ 2 → Rose (P.read_faults place.old) (P.read_faults place.new) }
@@ -34,9 +34,10 @@ pub fn run<P: Place, C: Clock + Sync, G: Gate + Sync, K: Sink>(
     ensures due { (s : ℕ) → IsDueJob (P.files place.old) (job_of words.now) s → (result ≡ s) ⊎ (result ≡ 2) ⊎ (result ≡ 4) ⊎ (result ≡ 5) }
     ensures bad_table { result ≡ 3 → HasBadTableJob (P.files place.old) (job_of words.now) }
     ensures too_long { result ≡ 7 → HasLongTableJob (P.files place.old) (job_of words.now) }
+    ensures full { result ≡ 6 → HasFullBaseJob (P.files place.old) (job_of words.now) }
     ensures outcome { JobOutcome (P.files place.old) (P.files place.new) (P.left_at place.new) (job_of words.now) (record { reads = P.read_faults place.old; writes = P.write_faults place.old; counts = P.counts place.old }) (record { reads = P.read_faults place.new; writes = P.write_faults place.new; counts = P.counts place.new }) (K.held out.old) (K.held out.new) (K.faults out.old) (K.faults out.new) result }
     ensures complete { IsQuiet (P.read_faults place.old) (P.read_faults place.new) (P.write_faults place.old) (P.write_faults place.new) (K.faults out.old) (K.faults out.new)
-        → job_of words.now ≢ None → ¬ (IsUnbuiltJob (P.files place.old) (job_of words.now)) → ¬ (HasLongTableJob (P.files place.old) (job_of words.now)) → ¬ (HasBadTableJob (P.files place.old) (job_of words.now)) → (result ≡ 0) ⊎ (result ≡ 5) }
+        → job_of words.now ≢ None → ¬ (IsUnbuiltJob (P.files place.old) (job_of words.now)) → ¬ (HasLongTableJob (P.files place.old) (job_of words.now)) → ¬ (HasBadTableJob (P.files place.old) (job_of words.now)) → ¬ (HasFullBaseJob (P.files place.old) (job_of words.now)) → (result ≡ 0) ⊎ (result ≡ 5) }
     ensures bad_words_line { result ≡ 1 → Prints (K.held out.old) (K.held out.new) (K.faults out.old) (K.faults out.new) (stop_text Stop.BadWords) }
     ensures not_built_line { result ≡ 8 → Prints (K.held out.old) (K.held out.new) (K.faults out.old) (K.faults out.new) (stop_text Stop.NotBuilt) }
     ensures no_memory_line { result ≡ 5 → Prints (K.held out.old) (K.held out.new) (K.faults out.old) (K.faults out.new) (stop_text Stop.NoMemory) }
@@ -57,7 +58,7 @@ fn run_job<P: Place, K: Sink>(alloc: Global, job: &Job, place: &mut P, out: &mut
     requires { MeetsMode job.now }
     ensures outcome { JobOutcome (P.files place.old) (P.files place.new) (P.left_at place.new) (Some job.now) (record { reads = P.read_faults place.old; writes = P.write_faults place.old; counts = P.counts place.old }) (record { reads = P.read_faults place.new; writes = P.write_faults place.new; counts = P.counts place.new }) (K.held out.old) (K.held out.new) (K.faults out.old) (K.faults out.new) result }
     ensures done { result ≡ 0 → IsJobDone (Some job.now) (P.files place.old) (P.files place.new) (K.held out.old) (K.held out.new) }
-    ensures known { (result ≡ 0) ⊎ (result ≡ 2) ⊎ (result ≡ 4) ⊎ (result ≡ 3) ⊎ (result ≡ 5) ⊎ (result ≡ 7) ⊎ (result ≡ 8) }
+    ensures known { (result ≡ 0) ⊎ (result ≡ 2) ⊎ (result ≡ 4) ⊎ (result ≡ 3) ⊎ (result ≡ 5) ⊎ (result ≡ 7) ⊎ (result ≡ 8) ⊎ (result ≡ 6) }
     ensures read { result ≡ 2 → Rose (P.read_faults place.old) (P.read_faults place.new) }
     ensures write { result ≡ 4 → Rose (P.write_faults place.old) (P.write_faults place.new) ⊎ Rose (K.faults out.old) (K.faults out.new) }
     ensures not_built { result ≡ 8 → IsUnbuiltJob (P.files place.old) (Some job.now) }

@@ -7,14 +7,14 @@ ghost use Rattle.pcg_base.specs.Told.{IsLonger, KeepsFiles};
 ghost use Rattle.pcg_words.specs.Job.{answer_file, request_file};
 ghost use Rattle.pcg_serve.specs.Causes.{StopsAt};
 ghost use Rattle.pcg_serve.specs.Headline.{ClientDoneAt, ClientEndAt, FaultCause, IsWhole, KeepsOthers, SessionEnd};
-ghost use Rattle.pcg_serve.specs.Ingests.{IsIngest, log_of};
+ghost use Rattle.pcg_serve.specs.Ingests.{AreWords, IsIngest, log_of};
 
 use crate::ingest::Ingest;
 use crate::session::{Session, serve};
 use crate::stops::{FileName, Stop};
 use crate::streams::{StreamEnd, ended_part, read_stream};
 use crate::summary::Fault;
-use pcg_base::{NoMemory, Place, PlaceError, Sink, Source};
+use pcg_base::{NoMemory, Place, PlaceError, Sink, Source, VecWords};
 use pcg_words::{Name, answer_file, request_file};
 use std::alloc::Global;
 
@@ -53,10 +53,12 @@ fn end_of(session: Session, broken: bool) -> Ended
 fn serve_stream<S: Source, K: Sink>(
     alloc: Global,
     ingest: &Ingest,
+    words: &mut VecWords,
     source: &mut S,
     sink: &mut K,
 ) -> Result<Ended, Stop>
-    requires { IsIngest ingest.now }
+    requires ingest { IsIngest ingest.now }
+    requires words { AreWords ingest.now words.old.words }
     ensures read { IfOk result (λ e. e.fault ≡ Some Fault.ReadFault → Rose (S.faults source.old) (S.faults source.new)) }
     ensures write { IfOk result (λ e. e.fault ≡ Some Fault.WriteFault → Rose (K.faults sink.old) (K.faults sink.new)) }
     ensures kinds { IfErr result (λ stop. (stop ≡ Stop.NotBuilt) ⊎ (stop ≡ Stop.NoMemory)) }
@@ -73,11 +75,11 @@ fn serve_stream<S: Source, K: Sink>(
     match stream.end {
         StreamEnd::TooLong => Err(Stop::NotBuilt),
         StreamEnd::Broken => {
-            let session = serve(alloc, ingest, ended_part(stream.bytes.as_slice()), sink);
+            let session = serve(alloc, ingest, words, ended_part(stream.bytes.as_slice()), sink);
             Ok(end_of(session, true))
         }
         StreamEnd::Whole => {
-            let session = serve(alloc, ingest, stream.bytes.as_slice(), sink);
+            let session = serve(alloc, ingest, words, stream.bytes.as_slice(), sink);
             Ok(end_of(session, false))
         }
     }
@@ -88,10 +90,12 @@ fn serve_stream<S: Source, K: Sink>(
 pub fn run_client<P: Place>(
     alloc: Global,
     ingest: &Ingest,
+    words: &mut VecWords,
     stem: &Name,
     place: &mut P,
 ) -> Result<Ended, Stop>
-    requires { IsIngest ingest.now }
+    requires ingest { IsIngest ingest.now }
+    requires words { AreWords ingest.now words.old.words }
     ensures stop { IfErr result (λ stop. StopsAt (P.files place.old) (P.files place.new) (P.left_at place.new) stem.now (record { reads = P.read_faults place.old; writes = P.write_faults place.old; counts = P.counts place.old }) (record { reads = P.read_faults place.new; writes = P.write_faults place.new; counts = P.counts place.new }) stop) }
     ensures ended { IfOk result (λ e. ClientEndAt ingest.now.dataset ingest.now.base (log_of ingest.now) (P.files place.old) (P.files place.new) (P.left_at place.new (request_file stem.now)) stem.now e.fault e.session.lines e.session.refused) }
     ensures only_left { (n : List ℕ) → n ≢ request_file stem.now → P.left_at place.new n ≡ P.left_at place.old n }
@@ -124,7 +128,7 @@ pub fn run_client<P: Place>(
             return Err(no_sink(e));
         }
     };
-    let found = serve_stream(alloc, ingest, &mut source, &mut sink);
+    let found = serve_stream(alloc, ingest, words, &mut source, &mut sink);
     place.keep_in(requests.text.as_str(), source);
     place.keep_out(answers.text.as_str(), sink);
     found

@@ -82,7 +82,7 @@ fn full_of(error: BuildError) -> Stop
 }
 
 /// A base and its words, with the entry that is read from them.
-fn begun(
+fn with_entry(
     alloc: Global,
     dataset: Dataset,
     base: Base,
@@ -133,7 +133,7 @@ pub fn make_ingest(
         Ok(words) => words,
         Err(error) => return Err(full_of(error)),
     };
-    match begun(alloc, dataset, base, words) {
+    match with_entry(alloc, dataset, base, words) {
         Ok(begun) => Ok(begun),
         Err(_) => Err(Stop::NoMemory),
     }

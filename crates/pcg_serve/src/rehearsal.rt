@@ -6,14 +6,14 @@ ghost use Rattle.pcg_base.specs.Causes.{HasCause, Rose};
 ghost use Rattle.pcg_base.specs.Told.{AppendsFront};
 ghost use Rattle.pcg_words.specs.Job.{IsJob};
 ghost use Rattle.request_lines.specs.Texts.{entry_text};
-ghost use Rattle.pcg_serve.specs.Causes.{EndsSo, HasBadTable, HasLongTable, IsDue, IsUnbuilt, StatusSo, StopCause, has_one_client};
+ghost use Rattle.pcg_serve.specs.Causes.{EndsSo, HasBadTable, HasFullBase, HasLongTable, IsDue, IsUnbuilt, StatusSo, StopCause, has_one_client};
 ghost use Rattle.pcg_serve.specs.Headline.{CamePast, DoneAt, IsDone, IsQuiet, KeepsOthers, Outcome, Prints, fault_status, faults_of};
 ghost use Rattle.pcg_serve.specs.Ingests.{IsIngest};
 ghost use Rattle.pcg_serve.specs.Statuses.{status_of};
 ghost use Rattle.pcg_serve.specs.Texts.{stop_text, summary_text};
 
 use crate::client::{Ended, run_client};
-use crate::ingest::Ingest;
+use crate::ingest::{Begun, Ingest};
 use crate::stops::{Stop, write_stop};
 use crate::summary::{ClientFault, Fault, Summary, write_summary};
 use crate::tables::read_tables;
@@ -116,11 +116,11 @@ fn rehearse<P: Place>(alloc: Global, job: &RehearseJob, place: &mut P) -> Result
     let Some(stem) = only_client(job) else {
         return Err(Stop::NotBuilt);
     };
-    let ingest = read_tables(alloc, job, place)?;
+    let Begun { ingest, mut words } = read_tables(alloc, job, place)?;
     let Ok(faults) = Vec::with_capacity(alloc, 1) else {
         return Err(Stop::NoMemory);
     };
-    let ended = match run_client(alloc, &ingest, stem, place) {
+    let ended = match run_client(alloc, &ingest, &mut words, stem, place) {
         Ok(ended) => ended,
         Err(stop) => return Err(stop),
     };
@@ -172,9 +172,11 @@ pub fn stopped<K: Sink>(stop: Stop, out: &mut K) -> u8
 /// - 4: a write or an opening for writing failed, or `out` did;
 /// - 3: a record of a table has a cause; the first such record is named, the supervoxel table first;
 /// - 5: memory ran out;
+/// - 6: the tables spell a base of which a chunk has more nodes than its ids have numbers, or which
+///   needs more records than the capacity;
 /// - 7: a table has over 1,073,741,824 bytes;
-/// - 8: the input is of a form that isn't taken yet: several clients or a schedule, a base of over 255
-///   supervoxels or 1,000 edges, or requests of over 65,536 bytes.
+/// - 8: the input is of a form that isn't taken yet: several clients or a schedule, or requests of
+///   over 65,536 bytes.
 pub fn run_rehearse<P: Place, K: Sink>(
     alloc: Global,
     job: &RehearseJob,
@@ -183,16 +185,17 @@ pub fn run_rehearse<P: Place, K: Sink>(
 ) -> u8
     requires { IsJob job.now }
     ensures done { result ≡ 0 → IsDone job.now (P.files place.old) (P.files place.new) (K.held out.old) (K.held out.new) }
-    ensures known { (result ≡ 0) ⊎ (result ≡ 2) ⊎ (result ≡ 4) ⊎ (result ≡ 3) ⊎ (result ≡ 5) ⊎ (result ≡ 7) ⊎ (result ≡ 8) }
+    ensures known { (result ≡ 0) ⊎ (result ≡ 2) ⊎ (result ≡ 4) ⊎ (result ≡ 3) ⊎ (result ≡ 5) ⊎ (result ≡ 7) ⊎ (result ≡ 8) ⊎ (result ≡ 6) }
     ensures read { result ≡ 2 → Rose (P.read_faults place.old) (P.read_faults place.new) }
     ensures write { result ≡ 4 → Rose (P.write_faults place.old) (P.write_faults place.new) ⊎ Rose (K.faults out.old) (K.faults out.new) }
     ensures not_built { result ≡ 8 → IsUnbuilt (P.files place.old) job.now }
     ensures due { (s : ℕ) → IsDue (P.files place.old) job.now s → (result ≡ s) ⊎ (result ≡ 2) ⊎ (result ≡ 4) ⊎ (result ≡ 5) }
     ensures bad_table { result ≡ 3 → HasBadTable (P.files place.old) job.now }
     ensures too_long { result ≡ 7 → HasLongTable (P.files place.old) job.now }
+    ensures full { result ≡ 6 → HasFullBase (P.files place.old) job.now }
     ensures outcome { Outcome (P.files place.old) (P.files place.new) (P.left_at place.new) job.now (record { reads = P.read_faults place.old; writes = P.write_faults place.old; counts = P.counts place.old }) (record { reads = P.read_faults place.new; writes = P.write_faults place.new; counts = P.counts place.new }) (K.held out.old) (K.held out.new) (K.faults out.old) (K.faults out.new) result }
     ensures complete { IsQuiet (P.read_faults place.old) (P.read_faults place.new) (P.write_faults place.old) (P.write_faults place.new) (K.faults out.old) (K.faults out.new)
-        → ¬ (IsUnbuilt (P.files place.old) job.now) → ¬ (HasLongTable (P.files place.old) job.now) → ¬ (HasBadTable (P.files place.old) job.now) → (result ≡ 0) ⊎ (result ≡ 5) }
+        → ¬ (IsUnbuilt (P.files place.old) job.now) → ¬ (HasLongTable (P.files place.old) job.now) → ¬ (HasBadTable (P.files place.old) job.now) → ¬ (HasFullBase (P.files place.old) job.now) → (result ≡ 0) ⊎ (result ≡ 5) }
     ensures not_built_line { result ≡ 8 → Prints (K.held out.old) (K.held out.new) (K.faults out.old) (K.faults out.new) (stop_text Stop.NotBuilt) }
     ensures no_memory_line { result ≡ 5 → Prints (K.held out.old) (K.held out.new) (K.faults out.old) (K.faults out.new) (stop_text Stop.NoMemory) }
     ensures others { KeepsOthers job.now.stems (P.files place.old) (P.files place.new) }

@@ -1,5 +1,5 @@
 use Rattle.std.proofs.Common.{rules}
-use Rattle.pcg_serve.specs.Causes.{HasBadTable, HasLongTable, IsUnbuilt}
+use Rattle.pcg_serve.specs.Causes.{HasBadTable, HasFullBase, HasLongTable, IsUnbuilt}
 use Rattle.pcg_serve.proofs.Exact.{complete_so, due_past, due_stopped}
 use Rattle.pcg_serve.proofs.rehearsal.run_rehearse.Goals as goal
 
@@ -20,6 +20,6 @@ returns-in-Err-clause-due g c =
 pub returns-in-Err-clause-complete : goal.returns-in-Err-clause-complete
 returns-in-Err-clause-complete g c =
     let files = g.P.Place.files c.args.place.now in
-    complete_so (HasBadTable files c.args.job.now) (HasLongTable files c.args.job.now) (IsUnbuilt files c.args.job.now) c.stopped.result
+    complete_so (HasBadTable files c.args.job.now) (HasLongTable files c.args.job.now) (IsUnbuilt files c.args.job.now) (HasFullBase files c.args.job.now) c.stopped.result
     (g.P.Place.read_faults c.args.place.now) (g.P.Place.read_faults c.rehearse.new.place) (g.P.Place.write_faults c.args.place.now) (g.P.Place.write_faults c.rehearse.new.place)
-    (g.K.Sink.faults c.args.out.now) (g.K.Sink.faults c.stopped.new.out) (search rules) (search rules) (search rules) (search rules) (search rules) (search rules)
+    (g.K.Sink.faults c.args.out.now) (g.K.Sink.faults c.stopped.new.out) (search rules) (search rules) (search rules) (search rules) (search rules) (search rules) (search rules)
