@@ -44,7 +44,7 @@ edges_differ : (es : List Edge) → Ascends edge_before same_ends edges_order es
 edges_differ [] a = tt
 edges_differ (e ∷ es) a = (none_among e es a.0, edges_differ es a.1)
 
-bound : {A B : Type 0} (m : Result A Fault) (f : A → Result B Fault) (y : B) → (m >>= f) ≡ Ok y → (x : A) × (m ≡ Ok x) × (f x ≡ Ok y)
+pub bound : {A B : Type 0} (m : Result A Fault) (f : A → Result B Fault) (y : B) → (m >>= f) ≡ Ok y → (x : A) × (m ≡ Ok x) × (f x ≡ Ok y)
 bound (Ok x) f y e = (x, refl, e)
 bound (Err c) f y e = cc e
 

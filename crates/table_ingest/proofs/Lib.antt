@@ -7,5 +7,6 @@ mod Orders
 mod Places
 mod Facts
 pub mod BaseLemmas
+pub mod Counts
 mod ReadLemmas
 mod FirstLemmas

@@ -75,6 +75,10 @@ leaves s fields field [] p e = at_end (ends_at_end s) s (fields ++ (field ∷ []
 leaves s fields field (c ∷ rest) p e =
     at_byte _ s (step default_config s c).0 c rest _ _ p (step-between s c) (leaves (step default_config s c).0 _ _ rest p) e
 
+-- a record that is read between two others takes a byte, and the machine stands between two again
+pub read_less : (s : State) (xs : List ℕ) (p : Read) → ends_at_end s ≡ false → next_record default_config s [] [] xs ≡ Some p → (ends_at_end p.1 ≡ false) × (length p.2 < length xs)
+read_less s xs p e is = let l = leaves s [] [] xs p is in (l.between, l.less e)
+
 abbrev Has : State → List ℕ → Type 0
 Has s xs = (rows : Rows) × AreRecords default_config s xs rows
 

@@ -1,5 +1,5 @@
 -- What holds of all texts.
-use Rattle.std.specs.Prelude.{◌≡◌, ◌⊎◌, ℕ, List, Err}
+use Rattle.std.specs.Prelude.{◌≡◌, ◌≤◌, ◌⊎◌, ℕ, List, length, Err}
 use Rattle.op_model.specs.declared.Dataset.{Dataset}
 use Rattle.op_model.specs.declared.Base.{Base}
 use Rattle.op_model.specs.Valid.{IsBase}
@@ -40,6 +40,11 @@ FaultsAreOne = (d : Dataset) (supervoxels edges : List ℕ) (t t2 : Table) (n n2
 -- what two texts spell is a base of the dataset, and its edges ascend
 abbrev pub BasesAreValid : Type 0
 BasesAreValid = (d : Dataset) (supervoxels edges : List ℕ) (b : Base) → Spells d supervoxels edges b → IsBase d b × AscendByPair b.edges
+
+-- no more supervoxels than the one text has bytes, and no more edges than the other
+abbrev pub FewRows : Type 0
+FewRows = (d : Dataset) (supervoxels edges : List ℕ) (b : Base) → Spells d supervoxels edges b
+    → (length b.supervoxels ≤ length supervoxels) × (length b.edges ≤ length edges)
 
 -- the fault is that of the first record that means nothing, in the supervoxel table if it has one
 abbrev pub FaultsAreFirst : Type 0

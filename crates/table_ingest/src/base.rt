@@ -1,6 +1,6 @@
 //! The base that two tables spell.
 
-ghost use Rattle.std.specs.Prelude.{IfOk};
+ghost use Rattle.std.specs.Prelude.{◌≤◌, IfOk, length};
 ghost use Rattle.op_model.specs.Valid.{IsBase};
 ghost use Rattle.table_ingest.specs.Bases.{Answers, AscendByPair};
 
@@ -23,6 +23,7 @@ use std::alloc::Global;
 /// to 4294967295 or `glue`, and `1` where the edge is active or `0`. Ids and affinities are decimal digits.
 ///
 /// Supervoxels and edges come ascending, the lesser id of an edge first, whatever the order of the records.
+/// There are at most as many supervoxels as the first text has bytes, and as many edges as the second.
 /// `Bad` comes exactly where a record has a cause, and names the first one; `NoMemory` may come at any time.
 pub fn read_base(
     alloc: Global,
@@ -33,6 +34,8 @@ pub fn read_base(
     ensures answers { Answers dataset.now supervoxels.now edges.now result }
     ensures base { IfOk result (λ b. IsBase dataset.now b) }
     ensures ascending { IfOk result (λ b. AscendByPair b.edges) }
+    ensures few { IfOk result (λ b. length b.supervoxels ≤ length supervoxels.now) }
+    ensures few_edges { IfOk result (λ b. length b.edges ≤ length edges.now) }
 {
     let ids = read_ids(alloc, supervoxels, dataset)?;
     let rows = read_edges(alloc, edges, &ids)?;

@@ -2,6 +2,7 @@ use Rattle.std.proofs.Common.{ℕ, rules, Vec, Global, BuildHasherDefault, FoldH
 use Rattle.indexmap.specs.declared.set.IndexSet.{IndexSet}
 use Rattle.op_model.specs.declared.Edge.{Edge}
 use Rattle.table_ingest.proofs.BaseLemmas.{spelled_valid}
+use Rattle.table_ingest.proofs.Counts.{spelled_few}
 use Rattle.table_ingest.proofs.ReadLemmas.{ids_stop, edges_stop, pairs_once, spelled}
 use Rattle.table_ingest.proofs.base.read_base.Goals as goal
 
@@ -28,3 +29,9 @@ returns-clause-base c = (spelled_valid c.args.dataset.now c.args.supervoxels.now
 
 pub returns-clause-ascending : goal.returns-clause-ascending
 returns-clause-ascending c = (spelled_valid c.args.dataset.now c.args.supervoxels.now c.args.edges.now (record { supervoxels = c.in-Ok.sorted; edges = c.ascending_edges.result }) (returns-clause-answers c)).1
+
+pub returns-clause-few : goal.returns-clause-few
+returns-clause-few c = (spelled_few c.args.dataset.now c.args.supervoxels.now c.args.edges.now (record { supervoxels = c.in-Ok.sorted; edges = c.ascending_edges.result }) (returns-clause-answers c)).0
+
+pub returns-clause-few_edges : goal.returns-clause-few_edges
+returns-clause-few_edges c = (spelled_few c.args.dataset.now c.args.supervoxels.now c.args.edges.now (record { supervoxels = c.in-Ok.sorted; edges = c.ascending_edges.result }) (returns-clause-answers c)).1
