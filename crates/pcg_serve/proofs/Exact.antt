@@ -222,3 +222,34 @@ complete_so Bad Long Unbuilt Full status reads reads' writes writes' outs outs' 
     go (inr (inr (inr (inr (inr (inl e)))))) = absurd (no_long (l e))
     go (inr (inr (inr (inr (inr (inr (inl e))))))) = absurd (no_unbuilt (u e))
     go (inr (inr (inr (inr (inr (inr (inr e))))))) = absurd (no_full (f e))
+
+full_here : (m : Option Files) (left : List ℕ → List ℕ) (job : RehearseJob) (old new : Seen) (stop : Stop) → TablesStop m left job old new stop → status_of stop ≡ 6 → HasFullBase m job
+full_here m left job old new (stops.IdsSpent layer x y z) t e = (builds.IdsSpent layer x y z, t.0)
+full_here m left job old new (stops.TooSmall need given) t e = (builds.TooSmall need given, t.0)
+full_here m left job old new stops.BadWords t e = cc
+full_here m left job old new (stops.ReadFault client file) t e = cc
+full_here m left job old new (stops.WriteFault client file) t e = cc
+full_here m left job old new (stops.TooLong client file) t e = cc
+full_here m left job old new (stops.BadTable table row cause) t e = cc
+full_here m left job old new stops.NotBuilt t e = cc
+full_here m left job old new stops.NoMemory t e = cc
+
+never_full : (m m' : Option Files) (left : List ℕ → List ℕ) (stems : List (List ℕ)) (old new : Seen) (stop : Stop) → StopsOnly m m' left stems old new stop → status_of stop ≡ 6 → ⊥
+never_full m m' left [] old new stop t e = t
+never_full m m' left (stem ∷ stems) old new (stops.IdsSpent layer x y z) t e = t
+never_full m m' left (stem ∷ stems) old new (stops.TooSmall need given) t e = t
+never_full m m' left (stem ∷ stems) old new stops.BadWords t e = cc
+never_full m m' left (stem ∷ stems) old new (stops.ReadFault client file) t e = cc
+never_full m m' left (stem ∷ stems) old new (stops.WriteFault client file) t e = cc
+never_full m m' left (stem ∷ stems) old new (stops.TooLong client file) t e = cc
+never_full m m' left (stem ∷ stems) old new (stops.BadTable table row cause) t e = cc
+never_full m m' left (stem ∷ stems) old new stops.NotBuilt t e = cc
+never_full m m' left (stem ∷ stems) old new stops.NoMemory t e = cc
+
+-- a call that stopped with this status did so for its base
+pub full_stop : (files files' : Option Files) (left : List ℕ → List ℕ) (job : RehearseJob) (old new : Seen) (stop : Stop) (status : ℕ) → StopCause files files' left job old new stop → status ≡ status_of stop → status ≡ 6 → HasFullBase files job
+full_stop files files' left job old new stop status (inl (many, is, kept)) s e =
+    let n : status_of stop ≡ 8 = ap status_of is in
+    absurd (omega (arith, n, s, e))
+full_stop files files' left job old new stop status (inr (inl (one, t, kept))) s e = full_here files left job old new stop t (sym s ∙ e)
+full_stop files files' left job old new stop status (inr (inr (one, base, read, t))) s e = absurd (never_full files files' left job.stems old new stop t (sym s ∙ e))

@@ -65,6 +65,7 @@ fn run_job<P: Place, K: Sink>(alloc: Global, job: &Job, place: &mut P, out: &mut
     ensures due { (s : ℕ) → IsDueJob (P.files place.old) (Some job.now) s → (result ≡ s) ⊎ (result ≡ 2) ⊎ (result ≡ 4) ⊎ (result ≡ 5) }
     ensures bad_table { result ≡ 3 → HasBadTableJob (P.files place.old) (Some job.now) }
     ensures too_long { result ≡ 7 → HasLongTableJob (P.files place.old) (Some job.now) }
+    ensures full { result ≡ 6 → HasFullBaseJob (P.files place.old) (Some job.now) }
     ensures not_built_line { result ≡ 8 → Prints (K.held out.old) (K.held out.new) (K.faults out.old) (K.faults out.new) (stop_text Stop.NotBuilt) }
     ensures no_memory_line { result ≡ 5 → Prints (K.held out.old) (K.held out.new) (K.faults out.old) (K.faults out.new) (stop_text Stop.NoMemory) }
     ensures others { KeepsOthers (stems_of (Some job.now)) (P.files place.old) (P.files place.new) }

@@ -116,7 +116,8 @@ fn rehearse<P: Place>(alloc: Global, job: &RehearseJob, place: &mut P) -> Result
     let Some(stem) = only_client(job) else {
         return Err(Stop::NotBuilt);
     };
-    let Begun { ingest, mut words } = read_tables(alloc, job, place)?;
+    let begun = read_tables(alloc, job, place)?;
+    let Begun { ingest, mut words } = begun;
     let Ok(faults) = Vec::with_capacity(alloc, 1) else {
         return Err(Stop::NoMemory);
     };

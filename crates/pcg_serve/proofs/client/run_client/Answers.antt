@@ -54,7 +54,7 @@ returns-clause-ended g c =
     ended_so c.args.ingest.now c.args.stem.now c.as_str.result.now c.as_str-2.result.now (g.P.Place.files c.args.place.now) (g.P.Place.files c.source_of.new.self)
     f2 (g.P.Place.files c.keep_in-2.new.self) (g.P.Place.files c.keep_out.new.self)
     (g.P.In.Source.left c.in-Ok-source_of.source) after (g.P.Out.Sink.held c.in-Ok-sink_of.sink) (g.P.Out.Sink.held c.serve_stream-found.new.sink)
-    (g.P.Place.left_at c.keep_out.new.self requests) c.serve_stream-found.result c.requires
+    (g.P.Place.left_at c.keep_out.new.self requests) c.serve_stream-found.result c.requires.ingest
     (search rules) (search rules) c.source_of.ensures.files c.in-Ok-source_of.ensures.bytes (search rules) c.in-Ok-sink_of.ensures.empty c.keep_in-2.ensures.files
     (subst K (sym (c.keep_out.ensures.left requests)) (subst L named c.keep_in-2.ensures.left))
     (subst N one c.keep_out.ensures.bytes) c.serve_stream-found.ensures.ended

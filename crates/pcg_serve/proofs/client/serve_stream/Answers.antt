@@ -15,5 +15,5 @@ returns-clause-whole g c = λ none.
     let taken : TakesAll left c.as_slice-in-Whole.result.now =
     subst T (sym c.as_slice-in-Whole.ensures.value) (takes_all left (g.S.Source.left c.read_stream.new.from) c.in-Ok.stream.bytes.items read.0 read.1) in
     subst P (sym c.end_of-in-Whole.ensures.session)
-    (is_whole c.args.ingest.now left held held' c.as_slice-in-Whole.result.now c.serve-session-in-Whole.result c.requires taken
+    (is_whole c.args.ingest.now left held held' c.as_slice-in-Whole.result.now c.serve-session-in-Whole.result c.requires.ingest taken
     c.serve-session-in-Whole.ensures.did ((c.end_of-in-Whole.ensures.none none).0))

@@ -1,6 +1,6 @@
 use Rattle.std.proofs.Common.{rules}
 use Rattle.pcg_serve.specs.Causes.{HasBadTable, HasFullBase, HasLongTable, IsUnbuilt}
-use Rattle.pcg_serve.proofs.Exact.{complete_so, due_past, due_stopped}
+use Rattle.pcg_serve.proofs.Exact.{complete_so, due_past, due_stopped, full_stop}
 use Rattle.pcg_serve.proofs.rehearsal.run_rehearse.Goals as goal
 
 pub returns-in-Ok-clause-due : goal.returns-in-Ok-clause-due
@@ -17,9 +17,16 @@ returns-in-Err-clause-due g c =
     (record { reads = g.P.Place.read_faults c.rehearse.new.place; writes = g.P.Place.write_faults c.rehearse.new.place; counts = g.P.Place.counts c.rehearse.new.place })
     c.in-Err.stop c.stopped.result c.in-Err.ensures.stop c.stopped.ensures.status
 
+pub returns-in-Err-clause-full : goal.returns-in-Err-clause-full
+returns-in-Err-clause-full g c =
+    full_stop (g.P.Place.files c.args.place.now) (g.P.Place.files c.rehearse.new.place) (g.P.Place.left_at c.rehearse.new.place) c.args.job.now
+    (record { reads = g.P.Place.read_faults c.args.place.now; writes = g.P.Place.write_faults c.args.place.now; counts = g.P.Place.counts c.args.place.now })
+    (record { reads = g.P.Place.read_faults c.rehearse.new.place; writes = g.P.Place.write_faults c.rehearse.new.place; counts = g.P.Place.counts c.rehearse.new.place })
+    c.in-Err.stop c.stopped.result c.in-Err.ensures.stop c.stopped.ensures.status
+
 pub returns-in-Err-clause-complete : goal.returns-in-Err-clause-complete
 returns-in-Err-clause-complete g c =
     let files = g.P.Place.files c.args.place.now in
     complete_so (HasBadTable files c.args.job.now) (HasLongTable files c.args.job.now) (IsUnbuilt files c.args.job.now) (HasFullBase files c.args.job.now) c.stopped.result
     (g.P.Place.read_faults c.args.place.now) (g.P.Place.read_faults c.rehearse.new.place) (g.P.Place.write_faults c.args.place.now) (g.P.Place.write_faults c.rehearse.new.place)
-    (g.K.Sink.faults c.args.out.now) (g.K.Sink.faults c.stopped.new.out) (search rules) (search rules) (search rules) (search rules) (search rules) (search rules) (search rules)
+    (g.K.Sink.faults c.args.out.now) (g.K.Sink.faults c.stopped.new.out) (search rules) (search rules) (search rules) (search rules) (search rules) (search rules) (returns-in-Err-clause-full g c)

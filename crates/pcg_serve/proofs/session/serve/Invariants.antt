@@ -6,6 +6,7 @@ use Rattle.pcg_serve.proofs.session.serve.Given as goal
 abbrev pub invariant-loop-line : goal.invariant-loop-line
 invariant-loop-line g l = record {
   so_far : SoFar l.fn.ingest.dataset l.fn.ingest.base (log_of l.fn.ingest) l.fn.stream l.rest (g.K.Sink.held l.fn.out) (g.K.Sink.held l.out) l.session.lines l.session.refused;
+  same : l.words ≡ l.fn.words;
   failed : l.session.failed ≡ false;
   few : l.session.lines + length l.rest ≤ length l.fn.stream;
   refused : l.session.refused ≤ l.session.lines;
