@@ -75,7 +75,13 @@ fn serve_stream<S: Source, K: Sink>(
     match stream.end {
         StreamEnd::TooLong => Err(Stop::NotBuilt),
         StreamEnd::Broken => {
-            let session = serve(alloc, ingest, words, ended_part(stream.bytes.as_slice()), sink);
+            let session = serve(
+                alloc,
+                ingest,
+                words,
+                ended_part(stream.bytes.as_slice()),
+                sink,
+            );
             Ok(end_of(session, true))
         }
         StreamEnd::Whole => {

@@ -25,6 +25,8 @@ pub use rehearsal::run_rehearse;
 #[cfg(test)]
 mod device_tests;
 #[cfg(test)]
+mod read_tests;
+#[cfg(test)]
 mod samples;
 #[cfg(test)]
 mod shut_place;

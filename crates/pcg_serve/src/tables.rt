@@ -42,11 +42,7 @@ fn read_table<P: Place>(
 }
 
 /// Reads the two tables of a job, and makes of them a base and the log that it begins.
-pub fn read_tables<P: Place>(
-    alloc: Global,
-    job: &RehearseJob,
-    place: &mut P,
-) -> Result<Begun, Stop>
+pub fn read_tables<P: Place>(alloc: Global, job: &RehearseJob, place: &mut P) -> Result<Begun, Stop>
     requires { IsJob job.now }
     ensures made { IfOk result (λ b. IsIngest b.ingest) }
     ensures words { IfOk result (λ b. AreWords b.ingest b.words.words) }

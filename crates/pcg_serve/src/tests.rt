@@ -7,18 +7,18 @@ use std::test::Fail;
 
 /// What a call meets: its files, of which two may be missing, and the calls that fail.
 #[derive(Clone, Copy)]
-struct Outside<'a> {
-    supervoxels: &'a [u8],
-    edges: &'a [u8],
-    requests: &'a [u8],
-    missing: (&'a str, &'a str),
-    read_fails: &'a [u32],
-    write_fails: &'a [u32],
-    out_fails: &'a [u32],
+pub struct Outside<'a> {
+    pub supervoxels: &'a [u8],
+    pub edges: &'a [u8],
+    pub requests: &'a [u8],
+    pub missing: (&'a str, &'a str),
+    pub read_fails: &'a [u32],
+    pub write_fails: &'a [u32],
+    pub out_fails: &'a [u32],
 }
 
 /// The usual tables and these requests.
-fn asking(requests: &[u8]) -> Outside<'_> {
+pub fn asking(requests: &[u8]) -> Outside<'_> {
     Outside {
         supervoxels: SUPERVOXELS,
         edges: EDGES,
@@ -60,7 +60,7 @@ fn place_of(alloc: Global, outside: &Outside<'_>) -> Result<MemPlace, Fail> {
     Ok(MemPlace::new(alloc, files, 65536, 65536)?)
 }
 
-fn call(alloc: Global, words: &str, outside: &Outside<'_>) -> Result<Ran, Fail> {
+pub fn call(alloc: Global, words: &str, outside: &Outside<'_>) -> Result<Ran, Fail> {
     let words = words_of(alloc, words)?;
     let mut place = place_of(alloc, outside)?;
     let fails = Vec::from_slice(alloc, outside.out_fails)?;
@@ -106,7 +106,7 @@ fn replies(rt: HostRuntime) -> Result<(), Fail> {
         ),
         (
             b"{\"do\":\"root\", \"sv\":\"5\"}\n\n{\"do\":\"merge\"}\n{\"do\":\"root\",\"sv\":\"72057594037927938\"}",
-            b"{\"ok\":false,\"refusal\":\"NotBuilt\"}\n{\"ok\":false,\"refusal\":\"NotBuilt\"}\n{\"ok\":false,\"refusal\":\"NotBuilt\"}\n{\"ok\":true,\"root\":\"216172782113783809\",\"seen\":1}\n",
+            b"{\"id\":\"5\",\"ok\":false,\"refusal\":\"NoSuchSupervoxel\",\"seen\":1}\n{\"ok\":false,\"refusal\":\"NotJson\"}\n{\"name\":\"a\",\"ok\":false,\"refusal\":\"MissingField\"}\n{\"ok\":true,\"root\":\"216172782113783809\",\"seen\":1}\n",
             b"{\"accepted\":0,\"clients\":1,\"entries\":1,\"faults\":[],\"lines\":4,\"records\":24,\"refused\":3,\"roots\":2,\"status\":0}\n",
         ),
     ];
@@ -233,12 +233,8 @@ fn call_with(alloc: Global, bytes: usize) -> Result<Ran, Fail> {
 #[test]
 fn inputs_that_wait(rt: HostRuntime) -> Result<(), Fail> {
     let waits = b"{\"fault\":\"NotBuilt\"}\n".as_slice();
-    let few = call_over(rt.alloc(), 255)?;
-    assert_eq!(rt; few.status, 0);
-    let many = call_over(rt.alloc(), 256)?;
-    assert_eq!(rt; many.status, 8);
-    assert_eq!(rt; many.answers.as_slice(), b"old".as_slice());
-    assert_eq!(rt; many.out.as_slice(), waits);
+    let many = call_over(rt.alloc(), 1000)?;
+    assert_eq!(rt; many.status, 0);
     let long = call_with(rt.alloc(), 65537)?;
     assert_eq!(rt; long.status, 8);
     assert_eq!(rt; long.answers.as_slice(), b"".as_slice());
