@@ -49,10 +49,10 @@ fn root_reply<W: Words>(w: &mut W, sv: NodeId, at: Option<u64>) -> Reply
 {
     let seen = length(w);
     match asked_supervoxel(w, sv, at) {
-        Ok(asked) => Reply::Root {
-            root: root_at(w, asked.spot, asked.prefix),
-            seen,
-        },
+        Ok(asked) => {
+            let root = root_at(w, asked.spot, asked.prefix);
+            Reply::Root { root, seen }
+        }
         Err(refusal) => Reply::Refused { refusal, seen },
     }
 }
@@ -65,10 +65,10 @@ fn path_reply<W: Words>(w: &mut W, sv: NodeId, at: Option<u64>) -> Reply
 {
     let seen = length(w);
     match asked_supervoxel(w, sv, at) {
-        Ok(asked) => Reply::Path {
-            nodes: path_at(w, asked.spot, asked.prefix),
-            seen,
-        },
+        Ok(asked) => {
+            let nodes = path_at(w, asked.spot, asked.prefix);
+            Reply::Path { nodes, seen }
+        }
         Err(refusal) => Reply::Refused { refusal, seen },
     }
 }
@@ -124,11 +124,10 @@ fn asked_root<W: Words>(w: &mut W, root: NodeId, at: Option<u64>) -> Result<Spot
     ensures same { w.new ≡ w.old }
     ensures is { (d : Dataset) (b : Base) (log : List Entry) → ParentImage d b log (W.words w.old) → MatchResult result (λ p. HoldsRoot d b log (prefix_for log at) root p × (refuse_leaves d b log root at ≡ None)) (λ r. refuse_leaves d b log root at ≡ Some r) }
 {
-    let prefix = match prefix_of(w, at) {
-        Ok(prefix) => prefix,
-        Err(refusal) => return Err(refusal),
-    };
-    root_of_prefix(w, root, prefix)
+    match prefix_of(w, at) {
+        Ok(prefix) => root_of_prefix(w, root, prefix),
+        Err(refusal) => Err(refusal),
+    }
 }
 
 /// How many entries a read of this time is asked of, from 1 to all, or why the time is refused.
