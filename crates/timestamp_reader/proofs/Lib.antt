@@ -14,3 +14,4 @@ pub mod LeafLaws
 pub mod ReadPrefixes
 pub mod MadeRoots
 pub mod Refused
+pub mod ReplySamples

@@ -13,7 +13,14 @@ use Rattle.op_model.specs.Legal.{Legal}
 use Rattle.op_model.specs.Transcript.{log_at}
 use Rattle.log_rows.specs.declared.times.TimeRefusal.TheVariants as time
 use Rattle.log_rows.specs.Times.{prefix_of_time}
-use Rattle.timestamp_reader.specs.Replies.{IsPrefix, prefix_of_read}
+use Rattle.timestamp_reader.specs.Replies.{prefix_of_read}
+
+-- a read of this time isn't refused for it, and is asked of so many entries
+pub record IsPrefix (d : Dataset) (b : Base) (log : List Entry) (at : Option ℕ) (prefix : ℕ) : Type 0 where
+  pub timely : first_of (refuse_time log at) ≡ None
+  pub low : 1 ≤ prefix
+  pub high : prefix ≤ length log
+  pub entries : log_at d b log prefix ≡ prefix_for log at
 
 -- how many entries there are at a time is how many a read of it is asked of
 pub read_early : (log : List Entry) (t first : ℕ) → prefix_of_time log t ≡ Err (time.TooEarly first) → Err (refusal.TooEarly first) ≡ prefix_of_read log (Some t)

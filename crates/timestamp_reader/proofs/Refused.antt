@@ -22,8 +22,9 @@ use Rattle.record_rows.specs.Readings.{HoldsSupervoxel, ParentImage}
 use Rattle.record_rows.specs.Sorted.{FoundAmong, supervoxel_count}
 use Rattle.record_rows.specs.Walks.{is_supervoxel}
 use Rattle.record_rows.proofs.BaseRows.{supervoxel_found, supervoxel_known, supervoxel_spot}
-use Rattle.timestamp_reader.specs.Replies.{HoldsRoot, IsAsked, IsPrefix, refuse_leaves, refuse_supervoxel, reply_to}
+use Rattle.timestamp_reader.specs.Replies.{HoldsRoot, IsAsked, reply_to}
 use Rattle.timestamp_reader.proofs.FirstWalks.{stands_there}
+use Rattle.timestamp_reader.proofs.ReadPrefixes.{IsPrefix}
 
 -- the first refusal of a list is that of a longer one
 first_some : (xs ys : List (Option Refusal)) (r : Refusal) → first_of xs ≡ Some r → first_of (xs ++ ys) ≡ Some r
@@ -49,18 +50,18 @@ module _ (d : Dataset) (b : Base) where
   unknown_some v h = rw h refl
 
   -- a read of a supervoxel is refused for its time
-  pub supervoxel_early : (log : List Entry) (v : ℕ) (at : Option ℕ) (r : Refusal) → first_of (refuse_time log at) ≡ Some r → refuse_supervoxel d b log v at ≡ Some r
-  unfolding refuse_supervoxel
+  pub supervoxel_early : (log : List Entry) (v : ℕ) (at : Option ℕ) (r : Refusal) → first_of (refuse_time log at) ≡ Some r → refuse_read d b log (read.Root v at) ≡ Some r
+  unfolding refuse_read
   supervoxel_early log v at r h = first_some (refuse_time log at) (refuse_unknown d b (v ∷ []) ∷ []) r h
 
   -- then for the supervoxel
-  pub supervoxel_missing : (log : List Entry) (v : ℕ) (at : Option ℕ) → first_of (refuse_time log at) ≡ None → has b.supervoxels v ≡ false → refuse_supervoxel d b log v at ≡ Some (NoSuchSupervoxel v)
-  unfolding refuse_supervoxel
+  pub supervoxel_missing : (log : List Entry) (v : ℕ) (at : Option ℕ) → first_of (refuse_time log at) ≡ None → has b.supervoxels v ≡ false → refuse_read d b log (read.Root v at) ≡ Some (NoSuchSupervoxel v)
+  unfolding refuse_read
   supervoxel_missing log v at h u = first_rest (refuse_time log at) (refuse_unknown d b (v ∷ []) ∷ []) h ∙ unknown_some v u
 
   -- and else not
   pub supervoxel_asked : (log : List Entry) (words : List ℕ) → ParentImage d b log words → (v : ℕ) (at : Option ℕ) (p k : ℕ) → IsPrefix d b log at k → HoldsSupervoxel d b log p v → IsAsked d b log v at p k
-  unfolding refuse_supervoxel
+  unfolding refuse_read
   supervoxel_asked log words i v at p k q h = record {
     unrefused = first_rest (refuse_time log at) (refuse_unknown d b (v ∷ []) ∷ []) q.timely ∙ unknown_none v (supervoxel_known d b log words i p v h);
     stands = h;
@@ -84,13 +85,13 @@ module _ (d : Dataset) (b : Base) where
       from row g t = absurd (false≢true t)
 
   -- a read of leaves is refused for its time
-  pub leaves_early : (log : List Entry) (r : ℕ) (at : Option ℕ) (q : Refusal) → first_of (refuse_time log at) ≡ Some q → refuse_leaves d b log r at ≡ Some q
-  unfolding refuse_leaves
+  pub leaves_early : (log : List Entry) (r : ℕ) (at : Option ℕ) (q : Refusal) → first_of (refuse_time log at) ≡ Some q → refuse_read d b log (read.Leaves r at) ≡ Some q
+  unfolding refuse_read
   leaves_early log r at q h = first_some (refuse_time log at) (refuse_root d b (prefix_for log at) r) q h
 
   -- then as the root is at its prefix
-  pub leaves_later : (log : List Entry) (r : ℕ) (at : Option ℕ) (k : ℕ) → IsPrefix d b log at k → refuse_leaves d b log r at ≡ first_of (refuse_root d b (log_at d b log k) r)
-  unfolding refuse_leaves
+  pub leaves_later : (log : List Entry) (r : ℕ) (at : Option ℕ) (k : ℕ) → IsPrefix d b log at k → refuse_read d b log (read.Leaves r at) ≡ first_of (refuse_root d b (log_at d b log k) r)
+  unfolding refuse_read
   leaves_later log r at k q = first_rest (refuse_time log at) (refuse_root d b (prefix_for log at) r) q.timely ∙ ap (λ l. first_of (refuse_root d b l r)) (sym q.entries)
 
   -- a root is refused for its form
@@ -111,45 +112,33 @@ module _ (d : Dataset) (b : Base) where
   -- so the record that is found is that of the root at the read's prefix, or its refusal is the read's
   pub root_asked : (log : List Entry) (r : ℕ) (at : Option ℕ) (k : ℕ) → IsPrefix d b log at k → (found : Result ℕ Refusal)
       → MatchResult found (HoldsRoot d b log (log_at d b log k) r) (λ q. first_of (refuse_root d b (log_at d b log k) r) ≡ Some q)
-      → MatchResult found (λ p. HoldsRoot d b log (prefix_for log at) r p × (refuse_leaves d b log r at ≡ None)) (λ q. refuse_leaves d b log r at ≡ Some q)
+      → MatchResult found (λ p. HoldsRoot d b log (prefix_for log at) r p × (refuse_read d b log (read.Leaves r at) ≡ None)) (λ q. refuse_read d b log (read.Leaves r at) ≡ Some q)
   root_asked log r at k q (Ok p) h = (subst (λ l. HoldsRoot d b log l r p) q.entries h, leaves_later log r at k q ∙ h.unrefused)
   root_asked log r at k q (Err e) h = leaves_later log r at k q ∙ h
 
   -- a read that is refused
-  refused_reply : (log : List Entry) (request : Read) (r : Refusal) (n : ℕ) → refuse_read d b log request ≡ Some r → n ≡ length log → reply.Refused r n ≡ reply_to d b log request
+  pub refused_reply : (log : List Entry) (request : Read) (r : Refusal) (n : ℕ) → refuse_read d b log request ≡ Some r → n ≡ length log → reply.Refused r n ≡ reply_to d b log request
   unfolding reply_to read_reply
   refused_reply log request r n h s = ap (λ k. reply.Refused r k) s ∙ ap (λ o. read_reply o log (answer d b log request)) (sym h)
 
   -- a read of a root, of a path or of leaves that isn't
   pub root_reply : (log : List Entry) (v : ℕ) (at : Option ℕ) (p k root n : ℕ) → IsAsked d b log v at p k → root ≡ root_of d b (log_at d b log k) v → n ≡ length log → reply.Root root n ≡ reply_to d b log (read.Root v at)
-  unfolding reply_to read_reply refuse_read refuse_supervoxel answer
+  unfolding reply_to read_reply refuse_read answer
   root_reply log v at p k root n a e s =
       ap₂ (λ x y. reply.Root x y) (e ∙ ap (λ l. root_of d b l v) a.entries) s ∙ ap (λ o. read_reply o log (answer d b log (read.Root v at))) (sym a.unrefused)
 
   pub path_reply : (log : List Entry) (v : ℕ) (at : Option ℕ) (p k : ℕ) (nodes : List ℕ) (n : ℕ) → IsAsked d b log v at p k → nodes ≡ path d b (log_at d b log k) v → n ≡ length log → reply.Path nodes n ≡ reply_to d b log (read.Path v at)
-  unfolding reply_to read_reply refuse_read refuse_supervoxel answer
+  unfolding reply_to read_reply refuse_read answer
   path_reply log v at p k nodes n a e s =
       ap₂ (λ x y. reply.Path x y) (e ∙ ap (λ l. path d b l v) a.entries) s ∙ ap (λ o. read_reply o log (answer d b log (read.Path v at))) (sym a.unrefused)
 
-  pub leaves_reply : (log : List Entry) (r : ℕ) (at : Option ℕ) (p : ℕ) (ids : List ℕ) (n : ℕ) → (h : HoldsRoot d b log (prefix_for log at) r p) → refuse_leaves d b log r at ≡ None → ids ≡ h.node.leaves → n ≡ length log
+  pub leaves_reply : (log : List Entry) (r : ℕ) (at : Option ℕ) (p : ℕ) (ids : List ℕ) (n : ℕ) → (h : HoldsRoot d b log (prefix_for log at) r p) → refuse_read d b log (read.Leaves r at) ≡ None → ids ≡ h.node.leaves → n ≡ length log
       → reply.Leaves ids n ≡ reply_to d b log (read.Leaves r at)
-  unfolding reply_to read_reply refuse_read refuse_leaves answer
+  unfolding reply_to read_reply refuse_read answer
   leaves_reply log r at p ids n h u e s =
       ap₂ (λ x y. reply.Leaves x y) (e ∙ h.shown) s ∙ ap (λ o. read_reply o log (answer d b log (read.Leaves r at))) (sym u)
 
-  -- and one that is refused
-  pub root_refused : (log : List Entry) (v : ℕ) (at : Option ℕ) (r : Refusal) (n : ℕ) → refuse_supervoxel d b log v at ≡ Some r → n ≡ length log → reply.Refused r n ≡ reply_to d b log (read.Root v at)
-  unfolding refuse_read refuse_supervoxel
-  root_refused log v at r n h s = refused_reply log (read.Root v at) r n h s
-
-  pub path_refused : (log : List Entry) (v : ℕ) (at : Option ℕ) (r : Refusal) (n : ℕ) → refuse_supervoxel d b log v at ≡ Some r → n ≡ length log → reply.Refused r n ≡ reply_to d b log (read.Path v at)
-  unfolding refuse_read refuse_supervoxel
+  -- a path is refused as a root is
+  pub path_refused : (log : List Entry) (v : ℕ) (at : Option ℕ) (r : Refusal) (n : ℕ) → refuse_read d b log (read.Root v at) ≡ Some r → n ≡ length log → reply.Refused r n ≡ reply_to d b log (read.Path v at)
+  unfolding refuse_read
   path_refused log v at r n h s = refused_reply log (read.Path v at) r n h s
-
-  pub leaves_refused : (log : List Entry) (root : ℕ) (at : Option ℕ) (r : Refusal) (n : ℕ) → refuse_leaves d b log root at ≡ Some r → n ≡ length log → reply.Refused r n ≡ reply_to d b log (read.Leaves root at)
-  unfolding refuse_read refuse_leaves
-  leaves_refused log root at r n h s = refused_reply log (read.Leaves root at) r n h s
-
-  pub leaves_unrefused : (log : List Entry) (root : ℕ) (at : Option ℕ) → refuse_leaves d b log root at ≡ None → refuse_read d b log (read.Leaves root at) ≡ None
-  unfolding refuse_read refuse_leaves
-  leaves_unrefused log root at h = h

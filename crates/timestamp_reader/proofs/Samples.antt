@@ -1,6 +1,5 @@
 -- What the tests know of the words that they read.
-use Rattle.std.proofs.Common.{◌≡◌, ℕ, ◌+◌, ◌-◌, ◌<◌, ◌≤◌, true, List, length, get_or, Option, Some, None, refl, sym, subst, ap, ◌∙◌, arith}
-use Rattle.std.specs.List.{slice_get}
+use Rattle.std.proofs.Common.{◌≡◌, ℕ, ◌+◌, ◌-◌, ◌<◌, ◌≤◌, List, length, get_or, Option, Some, None, refl, sym, subst, arith}
 use Rattle.std.proofs.lemmas.Bool.{false≢true}
 use Rattle.std.proofs.lemmas.Option.{same_Some}
 use Rattle.op_model.specs.declared.Dataset.{Dataset}
@@ -9,12 +8,11 @@ use Rattle.op_model.specs.declared.Pair.{Pair}
 use Rattle.op_model.specs.declared.Edge.{Edge}
 use Rattle.op_model.specs.declared.Entry.{Entry}
 use Rattle.op_model.specs.Samples.{base, data_a, ingested, redone, regained}
-use Rattle.record_rows.specs.Rows.{Row, HeaderRow, EdgeRow}
+use Rattle.record_rows.specs.Rows.{HeaderRow, EdgeRow}
 use Rattle.record_rows.specs.Chains.{has_id, is_edge}
 use Rattle.record_rows.specs.LogRows.{chunks, rows_of}
 use Rattle.record_rows.specs.Readings.{Image, ParentImage, HoldsEdge, HoldsId, HoldsSupervoxel, first_place}
 use Rattle.record_rows.specs.Samples.{words_ingested, words_redone, words_regained}
-use Rattle.record_rows.proofs.ImageFacts.{parent_image}
 use Rattle.record_rows.proofs.BaseRows.{supervoxel_at}
 use Rattle.record_rows.proofs.ToldLaws.{headed}
 use Rattle.record_rows.proofs.WalkLemmas.{LeadsTo, first_leads}

@@ -1,5 +1,5 @@
 -- What a read is replied.
-use Rattle.std.specs.Prelude.{◌≡◌, ℕ, ◌≤◌, ◌⊎◌, List, [], ◌∷◌, ◌++◌, length, Option, None, Result, Ok, Err}
+use Rattle.std.specs.Prelude.{◌≡◌, ℕ, ◌≤◌, ◌⊎◌, List, length, Option, None, Result, Ok, Err}
 use Rattle.std.specs.Option.{option_map_or}
 use Rattle.op_model.specs.declared.Dataset.{Dataset}
 use Rattle.op_model.specs.declared.Base.{Base}
@@ -10,7 +10,7 @@ use Rattle.op_model.specs.declared.Refusal.{Refusal}
 use Rattle.op_model.specs.declared.Reply.{Reply}
 use Rattle.op_model.specs.declared.Reply.TheVariants as reply
 use Rattle.op_model.specs.Answers.{answer, leaves}
-use Rattle.op_model.specs.Refusals.{first_of, prefix_for, refuse_read, refuse_time, refuse_unknown, refuse_root}
+use Rattle.op_model.specs.Refusals.{first_of, prefix_for, refuse_read, refuse_time, refuse_root}
 use Rattle.op_model.specs.Transcript.{log_at, read_reply}
 use Rattle.record_rows.specs.Rows.{Node}
 use Rattle.record_rows.specs.Readings.{HoldsNode, HoldsSupervoxel}
@@ -31,24 +31,9 @@ IsAnswer d b log (read.Changes root at) r = r ≡ reply.NotBuilt
 unfoldable pub prefix_of_read : List Entry → Option ℕ → Result ℕ Refusal
 prefix_of_read log at = option_map_or (λ r. Err r) (first_of (refuse_time log at)) (Ok (length (prefix_for log at)))
 
--- why a read of a supervoxel is refused
-unfoldable pub refuse_supervoxel : Dataset → Base → List Entry → ℕ → Option ℕ → Option Refusal
-refuse_supervoxel d b log v at = first_of (refuse_time log at ++ refuse_unknown d b (v ∷ []) ∷ [])
-
--- why a read of a root's leaves is refused
-unfoldable pub refuse_leaves : Dataset → Base → List Entry → ℕ → Option ℕ → Option Refusal
-refuse_leaves d b log r at = first_of (refuse_time log at ++ refuse_root d b (prefix_for log at) r)
-
--- a read of this time isn't refused for it, and is asked of so many entries
-pub record IsPrefix (d : Dataset) (b : Base) (log : List Entry) (at : Option ℕ) (prefix : ℕ) : Type 0 where
-  pub timely : first_of (refuse_time log at) ≡ None
-  pub low : 1 ≤ prefix
-  pub high : prefix ≤ length log
-  pub entries : log_at d b log prefix ≡ prefix_for log at
-
 -- the supervoxel's record stands at the place, and a read of it at this time isn't refused and is asked of so many entries
 pub record IsAsked (d : Dataset) (b : Base) (log : List Entry) (v : ℕ) (at : Option ℕ) (place prefix : ℕ) : Type 0 where
-  pub unrefused : refuse_supervoxel d b log v at ≡ None
+  pub unrefused : refuse_read d b log (read.Root v at) ≡ None
   pub stands : HoldsSupervoxel d b log place v
   pub low : 1 ≤ prefix
   pub high : prefix ≤ length log

@@ -8,11 +8,11 @@ ghost use Rattle.op_model.specs.declared.Entry.{Entry};
 ghost use Rattle.op_model.specs.declared.Read.TheVariants as read;
 ghost use Rattle.graph_model.specs.Lists.{has};
 ghost use Rattle.std.specs.List.{list_any};
-ghost use Rattle.op_model.specs.Refusals.{first_of, is_root_id, prefix_for, refuse_root, refuse_unknown};
+ghost use Rattle.op_model.specs.Refusals.{first_of, is_root_id, prefix_for, refuse_read, refuse_root};
 ghost use Rattle.op_model.specs.Transcript.{log_at};
 ghost use Rattle.record_rows.specs.Readings.{HoldsId, HoldsSupervoxel, ParentImage};
 ghost use Rattle.timestamp_reader.specs.Places.{IsReadable};
-ghost use Rattle.timestamp_reader.specs.Replies.{HoldsRoot, IsAnswer, IsAsked, prefix_of_read, refuse_leaves, refuse_supervoxel, reply_to};
+ghost use Rattle.timestamp_reader.specs.Replies.{HoldsRoot, IsAnswer, IsAsked, prefix_of_read, reply_to};
 
 use crate::node_leaves::leaves;
 use crate::nodes::{path_at, root_at, top_of};
@@ -49,10 +49,10 @@ fn root_reply<W: Words>(w: &mut W, sv: NodeId, at: Option<u64>) -> Reply
 {
     let seen = length(w);
     match asked_supervoxel(w, sv, at) {
-        Ok(asked) => Reply::Root {
-            root: root_at(w, asked.spot, asked.prefix),
-            seen,
-        },
+        Ok(asked) => {
+            let root = root_at(w, asked.spot, asked.prefix);
+            Reply::Root { root, seen }
+        }
         Err(refusal) => Reply::Refused { refusal, seen },
     }
 }
@@ -65,10 +65,10 @@ fn path_reply<W: Words>(w: &mut W, sv: NodeId, at: Option<u64>) -> Reply
 {
     let seen = length(w);
     match asked_supervoxel(w, sv, at) {
-        Ok(asked) => Reply::Path {
-            nodes: path_at(w, asked.spot, asked.prefix),
-            seen,
-        },
+        Ok(asked) => {
+            let nodes = path_at(w, asked.spot, asked.prefix);
+            Reply::Path { nodes, seen }
+        }
         Err(refusal) => Reply::Refused { refusal, seen },
     }
 }
@@ -106,7 +106,7 @@ fn asked_supervoxel<W: Words>(
 ) -> Result<AskedSupervoxel, Refusal>
     requires image { (d : Dataset) × (b : Base) × (log : List Entry) × ParentImage d b log (W.words w.old) }
     ensures same { w.new ≡ w.old }
-    ensures is { (d : Dataset) (b : Base) (log : List Entry) → ParentImage d b log (W.words w.old) → MatchResult result (λ a. IsAsked d b log sv at a.spot a.prefix) (λ r. refuse_supervoxel d b log sv at ≡ Some r) }
+    ensures is { (d : Dataset) (b : Base) (log : List Entry) → ParentImage d b log (W.words w.old) → MatchResult result (λ a. IsAsked d b log sv at a.spot a.prefix) (λ r. refuse_read d b log (read.Root sv at) ≡ Some r) }
 {
     let prefix = match prefix_of(w, at) {
         Ok(prefix) => prefix,
@@ -122,13 +122,12 @@ fn asked_supervoxel<W: Words>(
 fn asked_root<W: Words>(w: &mut W, root: NodeId, at: Option<u64>) -> Result<Spot, Refusal>
     requires image { (d : Dataset) × (b : Base) × (log : List Entry) × ParentImage d b log (W.words w.old) }
     ensures same { w.new ≡ w.old }
-    ensures is { (d : Dataset) (b : Base) (log : List Entry) → ParentImage d b log (W.words w.old) → MatchResult result (λ p. HoldsRoot d b log (prefix_for log at) root p × (refuse_leaves d b log root at ≡ None)) (λ r. refuse_leaves d b log root at ≡ Some r) }
+    ensures is { (d : Dataset) (b : Base) (log : List Entry) → ParentImage d b log (W.words w.old) → MatchResult result (λ p. HoldsRoot d b log (prefix_for log at) root p × (refuse_read d b log (read.Leaves root at) ≡ None)) (λ r. refuse_read d b log (read.Leaves root at) ≡ Some r) }
 {
-    let prefix = match prefix_of(w, at) {
-        Ok(prefix) => prefix,
-        Err(refusal) => return Err(refusal),
-    };
-    root_of_prefix(w, root, prefix)
+    match prefix_of(w, at) {
+        Ok(prefix) => root_of_prefix(w, root, prefix),
+        Err(refusal) => Err(refusal),
+    }
 }
 
 /// How many entries a read of this time is asked of, from 1 to all, or why the time is refused.

@@ -1,10 +1,10 @@
-//! Answers from the records of memory, at any prefix of the operation log: roots and paths, from
-//! the stored parents alone, whole entries, and the leaves of nodes.
+//! Answers from the records of memory, at any prefix of the operation log: whole replies to reads,
+//! roots and paths, from the stored parents alone, whole entries, and the leaves of nodes.
 //!
-//! `root_at`, `path_at` and `leaves` need no more than the records of supervoxels, chunks, nodes,
-//! links and entries tell (`ParentImage` of record_rows): what the records of edges, changes and
-//! items hold counts for nothing, so no root is computed anew from the edges. The first two take no
-//! memory.
+//! `answer`, `root_at`, `path_at` and `leaves` need no more than the records of supervoxels, chunks,
+//! nodes, links and entries tell (`ParentImage` of record_rows): what the records of edges, changes
+//! and items hold counts for nothing, so no root is computed anew from the edges. Roots and paths
+//! take no memory, and nor does a read that is refused.
 //!
 //! - `answers`: whole replies to reads
 //! - `nodes`: the nodes of a supervoxel at a prefix
@@ -14,6 +14,8 @@
 //! - `laws`: what holds of the records' leaves, the contract of a function that does nothing
 #![tactic(auto)]
 
+#[cfg(test)]
+mod answer_tests;
 mod answers;
 mod entries;
 mod first_roots;

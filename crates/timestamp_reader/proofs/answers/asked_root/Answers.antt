@@ -14,8 +14,8 @@ root_of_prefix-requires g c =
     let p = is_prefix r.0 r.1 r.2 c.args.at c.in-Ok.prefix r.3.legal (sym (c.prefix_of.ensures.is r.0 r.1 r.2 r.3) ∙ c.in-Ok.is) in
     record { readable = (r.0, r.1, r.2, record { image = image_kept g.W.Words.words r.0 r.1 r.2 c.prefix_of.ensures.same r.3; low = p.low; high = p.high }) }
 
-pub returns-clause-is : goal.returns-clause-is
-returns-clause-is g c d b log i =
+pub returns-in-Ok-clause-is : goal.returns-in-Ok-clause-is
+returns-in-Ok-clause-is g c d b log i =
     let p = is_prefix d b log c.args.at c.in-Ok.prefix i.legal (sym (c.prefix_of.ensures.is d b log i) ∙ c.in-Ok.is) in
     root_asked d b log c.args.root c.args.at c.in-Ok.prefix p c.root_of_prefix.result
     (c.root_of_prefix.ensures.is d b log (record { image = image_kept g.W.Words.words d b log c.prefix_of.ensures.same i; low = p.low; high = p.high }))
