@@ -1,5 +1,4 @@
-//! What is read of the entries of the log of a split that is undone and done again: the wanted values are those of a plain program that replays
-//! the log.
+//! What is wanted of the entries of the log of a split that is undone and done again.
 
 ghost use Rattle.std.specs.Prelude.{◌≡◌};
 ghost use Rattle.row_reads.specs.Kinds.{IsSample};

@@ -1,8 +1,6 @@
 //! Every call on each front of the log of a split that is undone and done again.
 
 ghost use Rattle.std.specs.Prelude.{◌≡◌};
-ghost use Rattle.record_rows.specs.Samples.{words_halved, words_ingested, words_merged, words_redone};
-ghost use Rattle.row_reads.specs.Fronts.{words_undone};
 ghost use Rattle.row_reads.specs.Kinds.{IsSample};
 
 use crate::fronts::{Front, undone};
@@ -27,7 +25,7 @@ fn reads(alloc: Global, w: &mut VecWords, front: Front) -> Result<bool, NoMemory
 
 #[test]
 #[tactic(auto, using(crate::proofs::FrontImages::ingested_sample))]
-fn redone_of_1(rt: HostRuntime) -> Result<(), NoMemory> {
+fn one_entry_is_read(rt: HostRuntime) -> Result<(), NoMemory> {
     let alloc = rt.alloc();
     let mut w = ingested(alloc)?;
     let front = Front {
@@ -41,7 +39,7 @@ fn redone_of_1(rt: HostRuntime) -> Result<(), NoMemory> {
 
 #[test]
 #[tactic(auto, using(crate::proofs::FrontImages::merged_sample))]
-fn redone_of_2(rt: HostRuntime) -> Result<(), NoMemory> {
+fn two_entries_are_read(rt: HostRuntime) -> Result<(), NoMemory> {
     let alloc = rt.alloc();
     let mut w = merged(alloc)?;
     let front = Front {
@@ -55,7 +53,7 @@ fn redone_of_2(rt: HostRuntime) -> Result<(), NoMemory> {
 
 #[test]
 #[tactic(auto, using(crate::proofs::FrontImages::halved_sample))]
-fn redone_of_3(rt: HostRuntime) -> Result<(), NoMemory> {
+fn three_entries_are_read(rt: HostRuntime) -> Result<(), NoMemory> {
     let alloc = rt.alloc();
     let mut w = halved(alloc)?;
     let front = Front {
@@ -69,7 +67,7 @@ fn redone_of_3(rt: HostRuntime) -> Result<(), NoMemory> {
 
 #[test]
 #[tactic(auto, using(crate::proofs::FrontImages::undone_sample))]
-fn redone_of_4(rt: HostRuntime) -> Result<(), NoMemory> {
+fn four_entries_are_read(rt: HostRuntime) -> Result<(), NoMemory> {
     let alloc = rt.alloc();
     let mut w = undone(alloc)?;
     let front = Front {
@@ -83,7 +81,7 @@ fn redone_of_4(rt: HostRuntime) -> Result<(), NoMemory> {
 
 #[test]
 #[tactic(auto, using(crate::proofs::KindFacts::redone_sample))]
-fn redone_of_5(rt: HostRuntime) -> Result<(), NoMemory> {
+fn five_entries_are_read(rt: HostRuntime) -> Result<(), NoMemory> {
     let alloc = rt.alloc();
     let mut w = redone(alloc)?;
     let front = Front {

@@ -1,5 +1,5 @@
-//! What is read of the edges and changes of the log of a merge that is undone and done again, with another one in between: the wanted values are those of a plain program
-//! that replays the log.
+//! What is wanted of the edges and changes of the log of a merge that is undone and done
+//! again, with another one in between.
 
 ghost use Rattle.std.specs.Prelude.{◌≡◌};
 ghost use Rattle.row_reads.specs.Kinds.{IsSample};

@@ -1,8 +1,7 @@
-//! Every call on each front of the log of a merge that is undone and done again, with another one in between.
+//! Every call on each front of the log of a merge that is undone and done again, with another one in
+//! between.
 
 ghost use Rattle.std.specs.Prelude.{◌≡◌};
-ghost use Rattle.record_rows.specs.Samples.{words_ingested, words_merged, words_regained};
-ghost use Rattle.row_reads.specs.Fronts.{words_crossed, words_remerged, words_unmerged};
 ghost use Rattle.row_reads.specs.Kinds.{IsSample};
 
 use crate::fronts::{Front, crossed, remerged, unmerged};
@@ -27,7 +26,7 @@ fn reads(alloc: Global, w: &mut VecWords, front: Front) -> Result<bool, NoMemory
 
 #[test]
 #[tactic(auto, using(crate::proofs::FrontImages::ingested_sample))]
-fn regained_of_1(rt: HostRuntime) -> Result<(), NoMemory> {
+fn one_entry_is_read(rt: HostRuntime) -> Result<(), NoMemory> {
     let alloc = rt.alloc();
     let mut w = ingested(alloc)?;
     let front = Front {
@@ -41,7 +40,7 @@ fn regained_of_1(rt: HostRuntime) -> Result<(), NoMemory> {
 
 #[test]
 #[tactic(auto, using(crate::proofs::FrontImages::merged_sample))]
-fn regained_of_2(rt: HostRuntime) -> Result<(), NoMemory> {
+fn two_entries_are_read(rt: HostRuntime) -> Result<(), NoMemory> {
     let alloc = rt.alloc();
     let mut w = merged(alloc)?;
     let front = Front {
@@ -55,7 +54,7 @@ fn regained_of_2(rt: HostRuntime) -> Result<(), NoMemory> {
 
 #[test]
 #[tactic(auto, using(crate::proofs::FrontImages::unmerged_sample))]
-fn regained_of_3(rt: HostRuntime) -> Result<(), NoMemory> {
+fn three_entries_are_read(rt: HostRuntime) -> Result<(), NoMemory> {
     let alloc = rt.alloc();
     let mut w = unmerged(alloc)?;
     let front = Front {
@@ -69,7 +68,7 @@ fn regained_of_3(rt: HostRuntime) -> Result<(), NoMemory> {
 
 #[test]
 #[tactic(auto, using(crate::proofs::FrontImages::crossed_sample))]
-fn regained_of_4(rt: HostRuntime) -> Result<(), NoMemory> {
+fn four_entries_are_read(rt: HostRuntime) -> Result<(), NoMemory> {
     let alloc = rt.alloc();
     let mut w = crossed(alloc)?;
     let front = Front {
@@ -83,7 +82,7 @@ fn regained_of_4(rt: HostRuntime) -> Result<(), NoMemory> {
 
 #[test]
 #[tactic(auto, using(crate::proofs::FrontImages::remerged_sample))]
-fn regained_of_5(rt: HostRuntime) -> Result<(), NoMemory> {
+fn five_entries_are_read(rt: HostRuntime) -> Result<(), NoMemory> {
     let alloc = rt.alloc();
     let mut w = remerged(alloc)?;
     let front = Front {
@@ -97,7 +96,7 @@ fn regained_of_5(rt: HostRuntime) -> Result<(), NoMemory> {
 
 #[test]
 #[tactic(auto, using(crate::proofs::KindFacts::regained_sample))]
-fn regained_of_6(rt: HostRuntime) -> Result<(), NoMemory> {
+fn six_entries_are_read(rt: HostRuntime) -> Result<(), NoMemory> {
     let alloc = rt.alloc();
     let mut w = regained(alloc)?;
     let front = Front {
