@@ -180,8 +180,8 @@ pub fn has_chunks(w: &mut VecWords, front: Front, wanted: &[(u32, &[u32])]) -> b
     true
 }
 
-/// Whether the parents of a node stand at these places at the prefixes from 1 on.
-pub fn has_parents(w: &mut VecWords, front: Front, place: u32, wanted: &[Option<u32>]) -> bool
+/// Whether the parents of a node or a supervoxel stand at these places at the prefixes from 1 on.
+fn parents_are(w: &mut VecWords, front: Front, place: u32, wanted: &[Option<u32>]) -> bool
     requires sample { IsSample w.old.words }
     ensures same { w.new ≡ w.old }
 {
@@ -191,6 +191,19 @@ pub fn has_parents(w: &mut VecWords, front: Front, place: u32, wanted: &[Option<
             return false;
         }
         prefix = prefix.wrapping_add(1);
+    }
+    true
+}
+
+/// Whether the parents of nodes and supervoxels stand at these places at the prefixes from 1 on.
+pub fn has_parents(w: &mut VecWords, front: Front, wanted: &[(u32, &[Option<u32>])]) -> bool
+    requires sample { IsSample w.old.words }
+    ensures same { w.new ≡ w.old }
+{
+    for x in wanted {
+        if !parents_are(w, front, x.0, x.1) {
+            return false;
+        }
     }
     true
 }

@@ -179,61 +179,22 @@ fn redone_parents(w: &mut VecWords, front: Front) -> bool
     has_parents(
         w,
         front,
-        1,
-        &[Some(11), Some(11), Some(11), Some(11), Some(11)],
-    ) && has_parents(
-        w,
-        front,
-        2,
-        &[Some(11), Some(11), Some(11), Some(11), Some(11)],
-    ) && has_parents(
-        w,
-        front,
-        3,
-        &[Some(12), Some(24), Some(34), Some(47), Some(55)],
-    ) && has_parents(
-        w,
-        front,
-        4,
-        &[Some(13), Some(24), Some(35), Some(47), Some(56)],
-    ) && has_parents(
-        w,
-        front,
-        11,
-        &[Some(14), Some(25), Some(36), Some(48), Some(57)],
+        &[
+            (1, &[Some(11), Some(11), Some(11), Some(11), Some(11)]),
+            (2, &[Some(11), Some(11), Some(11), Some(11), Some(11)]),
+            (3, &[Some(12), Some(24), Some(34), Some(47), Some(55)]),
+            (4, &[Some(13), Some(24), Some(35), Some(47), Some(56)]),
+            (11, &[Some(14), Some(25), Some(36), Some(48), Some(57)]),
+            (12, &[Some(14), Some(14), Some(14), Some(14), Some(14)]),
+            (13, &[Some(15), Some(15), Some(15), Some(15), Some(15)]),
+            (24, &[None, Some(25), Some(25), Some(25), Some(25)]),
+            (34, &[None, None, Some(36), Some(36), Some(36)]),
+            (35, &[None, None, Some(37), Some(37), Some(37)]),
+            (47, &[None, None, None, Some(48), Some(48)]),
+            (55, &[None, None, None, None, Some(57)]),
+            (56, &[None, None, None, None, Some(58)]),
+        ],
     )
-}
-
-fn redone_parents_2(w: &mut VecWords, front: Front) -> bool
-    requires sample { IsSample w.old.words }
-    ensures same { w.new ≡ w.old }
-{
-    has_parents(
-        w,
-        front,
-        12,
-        &[Some(14), Some(14), Some(14), Some(14), Some(14)],
-    ) && has_parents(
-        w,
-        front,
-        13,
-        &[Some(15), Some(15), Some(15), Some(15), Some(15)],
-    ) && has_parents(
-        w,
-        front,
-        24,
-        &[None, Some(25), Some(25), Some(25), Some(25)],
-    ) && has_parents(w, front, 34, &[None, None, Some(36), Some(36), Some(36)])
-        && has_parents(w, front, 35, &[None, None, Some(37), Some(37), Some(37)])
-}
-
-fn redone_parents_3(w: &mut VecWords, front: Front) -> bool
-    requires sample { IsSample w.old.words }
-    ensures same { w.new ≡ w.old }
-{
-    has_parents(w, front, 47, &[None, None, None, Some(48), Some(48)])
-        && has_parents(w, front, 55, &[None, None, None, None, Some(57)])
-        && has_parents(w, front, 56, &[None, None, None, None, Some(58)])
 }
 
 fn redone_children(alloc: Global, w: &mut VecWords, front: Front) -> Result<bool, NoMemory>
@@ -296,13 +257,6 @@ fn redone_leaves(alloc: Global, w: &mut VecWords, front: Front) -> Result<bool, 
     )
 }
 
-fn redone_parents_all(w: &mut VecWords, front: Front) -> bool
-    requires sample { IsSample w.old.words }
-    ensures same { w.new ≡ w.old }
-{
-    redone_parents(w, front) && redone_parents_2(w, front) && redone_parents_3(w, front)
-}
-
 pub fn redone_records(alloc: Global, w: &mut VecWords, front: Front) -> Result<bool, NoMemory>
     requires sample { IsSample w.old.words }
     ensures same { w.new ≡ w.old }
@@ -311,7 +265,7 @@ pub fn redone_records(alloc: Global, w: &mut VecWords, front: Front) -> Result<b
         redone_nodes(w, front)
             && redone_chains(w, front)
             && redone_chunks(w, front)
-            && redone_parents_all(w, front)
+            && redone_parents(w, front)
             && redone_children(alloc, w, front)?
             && redone_leaves(alloc, w, front)?,
     )

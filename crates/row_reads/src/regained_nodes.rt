@@ -188,80 +188,48 @@ fn regained_parents(w: &mut VecWords, front: Front) -> bool
     has_parents(
         w,
         front,
-        1,
-        &[Some(11), Some(11), Some(11), Some(46), Some(46), Some(46)],
-    ) && has_parents(
-        w,
-        front,
-        2,
-        &[Some(11), Some(11), Some(11), Some(46), Some(46), Some(46)],
-    ) && has_parents(
-        w,
-        front,
-        3,
-        &[Some(12), Some(24), Some(34), Some(34), Some(59), Some(67)],
-    ) && has_parents(
-        w,
-        front,
-        4,
-        &[Some(13), Some(24), Some(35), Some(47), Some(59), Some(68)],
-    ) && has_parents(
-        w,
-        front,
-        11,
-        &[Some(14), Some(25), Some(36), Some(36), Some(36), Some(36)],
+        &[
+            (
+                1,
+                &[Some(11), Some(11), Some(11), Some(46), Some(46), Some(46)],
+            ),
+            (
+                2,
+                &[Some(11), Some(11), Some(11), Some(46), Some(46), Some(46)],
+            ),
+            (
+                3,
+                &[Some(12), Some(24), Some(34), Some(34), Some(59), Some(67)],
+            ),
+            (
+                4,
+                &[Some(13), Some(24), Some(35), Some(47), Some(59), Some(68)],
+            ),
+            (
+                11,
+                &[Some(14), Some(25), Some(36), Some(36), Some(36), Some(36)],
+            ),
+            (
+                12,
+                &[Some(14), Some(14), Some(14), Some(14), Some(14), Some(14)],
+            ),
+            (
+                13,
+                &[Some(15), Some(15), Some(15), Some(15), Some(15), Some(15)],
+            ),
+            (
+                24,
+                &[None, Some(25), Some(25), Some(25), Some(25), Some(25)],
+            ),
+            (34, &[None, None, Some(36), Some(48), Some(48), Some(48)]),
+            (35, &[None, None, Some(37), Some(37), Some(37), Some(37)]),
+            (46, &[None, None, None, Some(48), Some(60), Some(69)]),
+            (47, &[None, None, None, Some(48), Some(48), Some(48)]),
+            (59, &[None, None, None, None, Some(60), Some(60)]),
+            (67, &[None, None, None, None, None, Some(69)]),
+            (68, &[None, None, None, None, None, Some(69)]),
+        ],
     )
-}
-
-fn regained_parents_2(w: &mut VecWords, front: Front) -> bool
-    requires sample { IsSample w.old.words }
-    ensures same { w.new ≡ w.old }
-{
-    has_parents(
-        w,
-        front,
-        12,
-        &[Some(14), Some(14), Some(14), Some(14), Some(14), Some(14)],
-    ) && has_parents(
-        w,
-        front,
-        13,
-        &[Some(15), Some(15), Some(15), Some(15), Some(15), Some(15)],
-    ) && has_parents(
-        w,
-        front,
-        24,
-        &[None, Some(25), Some(25), Some(25), Some(25), Some(25)],
-    ) && has_parents(
-        w,
-        front,
-        34,
-        &[None, None, Some(36), Some(48), Some(48), Some(48)],
-    ) && has_parents(
-        w,
-        front,
-        35,
-        &[None, None, Some(37), Some(37), Some(37), Some(37)],
-    )
-}
-
-fn regained_parents_3(w: &mut VecWords, front: Front) -> bool
-    requires sample { IsSample w.old.words }
-    ensures same { w.new ≡ w.old }
-{
-    has_parents(
-        w,
-        front,
-        46,
-        &[None, None, None, Some(48), Some(60), Some(69)],
-    ) && has_parents(
-        w,
-        front,
-        47,
-        &[None, None, None, Some(48), Some(48), Some(48)],
-    ) && has_parents(w, front, 59, &[None, None, None, None, Some(60), Some(60)])
-        && has_parents(w, front, 67, &[None, None, None, None, None, Some(69)])
-        && has_parents(w, front, 68, &[None, None, None, None, None, Some(69)])
 }
 
 fn regained_children(alloc: Global, w: &mut VecWords, front: Front) -> Result<bool, NoMemory>
@@ -328,13 +296,6 @@ fn regained_leaves(alloc: Global, w: &mut VecWords, front: Front) -> Result<bool
     )
 }
 
-fn regained_parents_all(w: &mut VecWords, front: Front) -> bool
-    requires sample { IsSample w.old.words }
-    ensures same { w.new ≡ w.old }
-{
-    regained_parents(w, front) && regained_parents_2(w, front) && regained_parents_3(w, front)
-}
-
 pub fn regained_records(alloc: Global, w: &mut VecWords, front: Front) -> Result<bool, NoMemory>
     requires sample { IsSample w.old.words }
     ensures same { w.new ≡ w.old }
@@ -343,7 +304,7 @@ pub fn regained_records(alloc: Global, w: &mut VecWords, front: Front) -> Result
         regained_nodes(w, front)
             && regained_chains(w, front)
             && regained_chunks(w, front)
-            && regained_parents_all(w, front)
+            && regained_parents(w, front)
             && regained_children(alloc, w, front)?
             && regained_leaves(alloc, w, front)?,
     )
