@@ -1,5 +1,5 @@
 -- What stands at a place, by the kind of the record there.
-use Rattle.std.proofs.Common.{◌≡◌, ℕ, ◌+◌, ◌*◌, ◌%◌, List, length, take, get_or, refl, sym, ◌∙◌, ap, subst, arith, eq-eqb}
+use Rattle.std.proofs.Common.{◌≡◌, ℕ, ◌+◌, ◌*◌, ◌%◌, ◌≤◌, List, length, take, get_or, refl, sym, ◌∙◌, ap, subst, arith, eq-eqb}
 use Rattle.std.proofs.lemmas.Option.{slice_get-get_or}
 use Rattle.op_model.specs.declared.Dataset.{Dataset}
 use Rattle.op_model.specs.declared.Base.{Base}
@@ -13,10 +13,10 @@ use Rattle.record_rows.specs.Words.{fixed_words, layout_word}
 use Rattle.record_rows.specs.LogRows.{rows_of}
 use Rattle.record_rows.specs.Readings.{Image, Holds, HoldsChange, HoldsChunk, HoldsEdge, HoldsId, HoldsNode, HoldsSupervoxel}
 use Rattle.record_rows.specs.Samples.{words_redone, words_regained}
-use Rattle.record_rows.proofs.ImageFacts.{image_fixed}
+use Rattle.record_rows.proofs.ImageFacts.{header, image_fixed, parent_image, within}
 use Rattle.record_rows.proofs.TellLemmas.{length-words_of}
 use Rattle.row_samples.proofs.SampleImages.{redone_image, regained_image}
-use Rattle.row_reads.specs.Kinds.{HasKind, IsSample}
+use Rattle.row_reads.specs.Kinds.{HasKind, IsOwner, IsSample, Node as ANode, Supervoxel as ASupervoxel}
 
 -- the code of a record's kind
 code : Row → ℕ
@@ -136,6 +136,22 @@ change_kind words s place k = go (some_row words s place 7 k).0 (some_row words 
 pub owner_kind : (d : Dataset) (b : Base) (log : List Entry) (place : ℕ) (n : Node) → HoldsNode d b log place n → HoldsId d b log place n.id
 unfolding has_id
 owner_kind d b log place n h = (NodeRow n, h, eq-eqb n.id n.id refl)
+
+-- a supervoxel has its id
+supervoxel_owner : (d : Dataset) (b : Base) (log : List Entry) (place v : ℕ) → HoldsSupervoxel d b log place v → HoldsId d b log place v
+unfolding has_id
+supervoxel_owner d b log place v h = (SupervoxelRow v, h, eq-eqb v v refl)
+
+-- a node or a supervoxel has an id
+pub owner_id : (words : List ℕ) (s : IsSample words) (place : ℕ) → IsOwner words place → (id : ℕ) × HoldsId data_a base s.log place id
+owner_id words s place (ANode k) = let h = node_kind words s place k in (h.0.id, owner_kind data_a base s.log place h.0 h.1)
+owner_id words s place (ASupervoxel k) = let h = supervoxel_kind words s place k in (h.0, supervoxel_owner data_a base s.log place h.0 h.1)
+
+-- the header lies within the words
+pub header_within : (words : List ℕ) (s : IsSample words) → 8 ≤ length words
+header_within words s =
+    let i = parent_image data_a base s.log words s.image in
+    within data_a base s.log words i 0 (HeaderRow data_a _ _) (header data_a base s.log words i)
 
 pub redone_sample : (words : List ℕ) → words ≡ words_redone → IsSample words
 redone_sample words e = record { log = redone; image = subst (Image data_a base redone) (sym e) redone_image }

@@ -1,1 +1,2 @@
+pub mod FrontImages
 pub mod KindFacts

@@ -13,3 +13,8 @@ pub record IsSample (words : List ℕ) : Type 0 where
 pub record HasKind (words : List ℕ) (place kind : ℕ) : Type 0 where
   pub within : 8 * place + 8 ≤ length words
   pub code : slice_index words (8 * place) % 2 ^ 8 ≡ kind
+
+-- a node or a supervoxel, by its kind
+pub data IsOwner (words : List ℕ) (place : ℕ) : Type 0 where
+  Node : HasKind words place 4 → IsOwner words place
+  Supervoxel : HasKind words place 2 → IsOwner words place

@@ -1,17 +1,20 @@
 //! Each call at the place of a record, where a record of its kind stands there.
 
 ghost use Rattle.std.specs.Prelude.{◌≡◌, true};
-ghost use Rattle.row_reads.specs.Kinds.{HasKind, IsSample};
+ghost use Rattle.row_reads.specs.Kinds.{HasKind, IsOwner, IsSample};
 
-use edge_rows::{last_change, last_edge, state_at};
+use edge_rows::{edges_of, find_edge, last_change, last_edge, state_at};
 use log_rows::{changed, next_change};
-use op_model::{Changed, Ids};
+use node_ids::NodeId;
+use op_model::{Changed, EdgeList, Ids, Pair};
 use parent_rows::{
-    NodeRow, children, ended, first_node, last_node, last_version, next_node, node, parent_at,
+    NodeRow, children, chunk, ended, find, first_node, last_node, last_version, next_node, node,
+    parent_at,
 };
 use pcg_base::{NoMemory, VecWords, Words};
-use row_words::{Spot, kind_of};
+use row_words::{Spot, kind_of, supervoxel};
 use std::alloc::Global;
+use timestamp_reader::leaves;
 
 const SUPERVOXEL: u8 = 2;
 
@@ -32,6 +35,15 @@ fn is_kind(w: &mut VecWords, place: u32, kind: u8) -> bool
         return false;
     }
     kind_of(w, Spot(place)) == kind
+}
+
+/// Whether a node or a supervoxel stands at the place.
+fn is_owner(w: &mut VecWords, place: u32) -> bool
+    requires sample { IsSample w.old.words }
+    ensures same { w.new ≡ w.old }
+    ensures is { result ≡ true → IsOwner w.old.words place }
+{
+    is_kind(w, place, NODE) || is_kind(w, place, SUPERVOXEL)
 }
 
 pub fn node_at(w: &mut VecWords, place: u32) -> Option<NodeRow>
@@ -80,24 +92,37 @@ pub fn children_at(alloc: Global, w: &mut VecWords, place: u32) -> Result<Ids, N
     }
 }
 
-/// Of a node.
-pub fn version_at(w: &mut VecWords, place: u32) -> Option<Spot>
+pub fn leaves_at(alloc: Global, w: &mut VecWords, place: u32) -> Result<Ids, NoMemory>
     requires sample { IsSample w.old.words }
     ensures same { w.new ≡ w.old }
 {
     if is_kind(w, place, NODE) {
+        leaves(alloc, w, Spot(place))
+    } else {
+        Ok(Ids {
+            list: Vec::new(alloc),
+        })
+    }
+}
+
+/// Of a node or a supervoxel.
+pub fn version_at(w: &mut VecWords, place: u32) -> Option<Spot>
+    requires sample { IsSample w.old.words }
+    ensures same { w.new ≡ w.old }
+{
+    if is_owner(w, place) {
         last_version(w, Spot(place))
     } else {
         None
     }
 }
 
-/// Of a node.
+/// Of a node or a supervoxel.
 pub fn parent_of(w: &mut VecWords, place: u32, prefix: u32) -> Option<Spot>
     requires sample { IsSample w.old.words }
     ensures same { w.new ≡ w.old }
 {
-    if is_kind(w, place, NODE) {
+    if is_owner(w, place) {
         parent_at(w, Spot(place), prefix)
     } else {
         None
@@ -134,6 +159,24 @@ pub fn edge_at(w: &mut VecWords, place: u32) -> Option<Spot>
         last_edge(w, Spot(place))
     } else {
         None
+    }
+}
+
+pub fn edges_at(
+    alloc: Global,
+    w: &mut VecWords,
+    place: u32,
+    prefix: u32,
+) -> Result<EdgeList, NoMemory>
+    requires sample { IsSample w.old.words }
+    ensures same { w.new ≡ w.old }
+{
+    if prefix > 0 && is_kind(w, place, SUPERVOXEL) {
+        edges_of(alloc, w, Spot(place), prefix)
+    } else {
+        Ok(EdgeList {
+            list: Vec::new(alloc),
+        })
     }
 }
 
@@ -179,4 +222,39 @@ pub fn following(w: &mut VecWords, place: u32) -> Option<Spot>
     } else {
         None
     }
+}
+
+/// The place of the record of a supervoxel or a node.
+pub fn place_of(w: &mut VecWords, id: u64) -> Option<Spot>
+    requires sample { IsSample w.old.words }
+    ensures same { w.new ≡ w.old }
+{
+    find(w, NodeId(id))
+}
+
+pub fn chunk_of(w: &mut VecWords, id: u64) -> Option<Spot>
+    requires sample { IsSample w.old.words }
+    ensures same { w.new ≡ w.old }
+{
+    chunk(w, NodeId(id))
+}
+
+pub fn supervoxel_of(w: &mut VecWords, id: u64) -> Option<Spot>
+    requires sample { IsSample w.old.words }
+    ensures same { w.new ≡ w.old }
+{
+    supervoxel(w, id)
+}
+
+pub fn edge_of(w: &mut VecWords, a: u64, b: u64) -> Option<Spot>
+    requires sample { IsSample w.old.words }
+    ensures same { w.new ≡ w.old }
+{
+    find_edge(
+        w,
+        Pair {
+            a: NodeId(a),
+            b: NodeId(b),
+        },
+    )
 }

@@ -2,11 +2,11 @@ use Rattle.std.proofs.Common.{sym, subst}
 use Rattle.op_model.specs.Samples.{base, data_a}
 use Rattle.record_rows.specs.Readings.{ParentImage}
 use Rattle.record_rows.proofs.ImageFacts.{parent_image}
-use Rattle.row_reads.proofs.KindFacts.{node_kind, owner_kind}
+use Rattle.row_reads.proofs.KindFacts.{owner_id}
 use Rattle.row_reads.proofs.calls.parent_of.Goals as goal
 
 pub parent_at-requires : goal.parent_at-requires
 parent_at-requires c =
     let s = c.requires.sample in
-    let h = node_kind _ s c.args.place (c.is_kind.ensures.is c.if-is_kind.true) in
-    record { owner = (data_a, base, s.log, h.0.id, subst (λ w. ParentImage data_a base s.log w.words) (sym c.is_kind.ensures.same) (parent_image data_a base s.log _ s.image), owner_kind data_a base s.log c.args.place h.0 h.1) }
+    let h = owner_id _ s c.args.place (c.is_owner.ensures.is c.if-is_owner.true) in
+    record { owner = (data_a, base, s.log, h.0, subst (λ w. ParentImage data_a base s.log w.words) (sym c.is_owner.ensures.same) (parent_image data_a base s.log _ s.image), h.1) }

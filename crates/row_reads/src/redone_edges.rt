@@ -1,0 +1,132 @@
+//! What is wanted of the edges and changes of the log of a split that is undone and done again.
+
+ghost use Rattle.std.specs.Prelude.{◌≡◌};
+ghost use Rattle.row_reads.specs.Kinds.{IsSample};
+
+use crate::edge_checks::{
+    change, has_changed, has_changes, has_edge_lists, has_edges, has_pairs, has_states,
+};
+use crate::fronts::Front;
+use crate::names::*;
+use pcg_base::{NoMemory, VecWords};
+use row_samples::{P, Q, R, S};
+use std::alloc::Global;
+
+fn redone_edges(w: &mut VecWords, front: Front) -> bool
+    requires sample { IsSample w.old.words }
+    ensures same { w.new ≡ w.old }
+{
+    has_edges(
+        w,
+        front,
+        &[(1, &[8]), (2, &[8, 9]), (3, &[9, 10]), (4, &[10])],
+    ) && has_pairs(
+        w,
+        front,
+        &[
+            (P, Q, Some(8)),
+            (P, R, None),
+            (P, S, None),
+            (Q, R, Some(9)),
+            (Q, S, None),
+            (R, S, Some(10)),
+            (P, S + 1, None),
+            (LEFT_1, RIGHT_1, None),
+        ],
+    )
+}
+
+fn redone_changes(w: &mut VecWords, front: Front) -> bool
+    requires sample { IsSample w.old.words }
+    ensures same { w.new ≡ w.old }
+{
+    has_changes(w, front, &[(8, &[]), (9, &[]), (10, &[32, 45, 53, 64])])
+        && has_changed(
+            w,
+            front,
+            &[
+                (32, change(R, S, true)),
+                (45, change(R, S, false)),
+                (53, change(R, S, true)),
+                (64, change(R, S, false)),
+            ],
+        )
+}
+
+fn redone_states(w: &mut VecWords, front: Front) -> bool
+    requires sample { IsSample w.old.words }
+    ensures same { w.new ≡ w.old }
+{
+    has_states(w, front, 8, &[true, true, true, true, true])
+        && has_states(w, front, 9, &[true, true, true, true, true])
+        && has_states(w, front, 10, &[false, true, false, true, false])
+}
+
+fn redone_lists(alloc: Global, w: &mut VecWords, front: Front) -> Result<bool, NoMemory>
+    requires sample { IsSample w.old.words }
+    ensures same { w.new ≡ w.old }
+{
+    Ok(
+        has_edge_lists(
+            alloc,
+            w,
+            front,
+            1,
+            &[
+                &[(P, Q, 10, true)],
+                &[(P, Q, 10, true)],
+                &[(P, Q, 10, true)],
+                &[(P, Q, 10, true)],
+                &[(P, Q, 10, true)],
+            ],
+        )? && has_edge_lists(
+            alloc,
+            w,
+            front,
+            2,
+            &[
+                &[(P, Q, 10, true), (Q, R, 7, true)],
+                &[(P, Q, 10, true), (Q, R, 7, true)],
+                &[(P, Q, 10, true), (Q, R, 7, true)],
+                &[(P, Q, 10, true), (Q, R, 7, true)],
+                &[(P, Q, 10, true), (Q, R, 7, true)],
+            ],
+        )? && has_edge_lists(
+            alloc,
+            w,
+            front,
+            3,
+            &[
+                &[(Q, R, 7, true), (R, S, 5, false)],
+                &[(Q, R, 7, true), (R, S, 5, true)],
+                &[(Q, R, 7, true), (R, S, 5, false)],
+                &[(Q, R, 7, true), (R, S, 5, true)],
+                &[(Q, R, 7, true), (R, S, 5, false)],
+            ],
+        )? && has_edge_lists(
+            alloc,
+            w,
+            front,
+            4,
+            &[
+                &[(R, S, 5, false)],
+                &[(R, S, 5, true)],
+                &[(R, S, 5, false)],
+                &[(R, S, 5, true)],
+                &[(R, S, 5, false)],
+            ],
+        )?,
+    )
+}
+
+pub fn redone_graph(alloc: Global, w: &mut VecWords, front: Front) -> Result<bool, NoMemory>
+    requires sample { IsSample w.old.words }
+    ensures same { w.new ≡ w.old }
+{
+    Ok(
+        redone_edges(w, front)
+            && redone_changes(w, front)
+            && redone_states(w, front)
+            && redone_lists(alloc, w, front)?,
+    )
+}
