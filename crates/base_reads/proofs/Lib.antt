@@ -1,2 +1,3 @@
 pub mod Axes
 pub mod Images
+pub mod Emptied

@@ -3,6 +3,7 @@
 
 ghost use Rattle.std.specs.Prelude.{◌≡◌};
 ghost use Rattle.base_reads.specs.Built.{IsBuilt};
+ghost use Rattle.base_reads.specs.Emptied.{TellsBase};
 
 use crate::reads::{has_leaves, has_path, has_root, refuses_root, refuses_supervoxel};
 use crate::wanted::{Wanted, is_known, last_root, leaves_of};
@@ -35,7 +36,7 @@ fn is_entry(found: &Entry, wanted: &Entry) -> bool {
 
 /// Whether each supervoxel has its root.
 pub fn has_roots(alloc: Global, w: &mut VecWords, wanted: &[Wanted]) -> bool
-    requires built { IsBuilt w.old.words }
+    requires tells { TellsBase w.old.words }
     ensures same { w.new ≡ w.old }
 {
     for x in wanted {
@@ -51,7 +52,7 @@ pub fn has_roots(alloc: Global, w: &mut VecWords, wanted: &[Wanted]) -> bool
 
 /// Whether each supervoxel has its path.
 pub fn has_paths(alloc: Global, w: &mut VecWords, wanted: &[Wanted]) -> bool
-    requires built { IsBuilt w.old.words }
+    requires tells { TellsBase w.old.words }
     ensures same { w.new ≡ w.old }
 {
     for x in wanted {
@@ -72,7 +73,7 @@ fn has_own_leaves(
     wanted: &[Wanted],
     root: NodeId,
 ) -> Result<bool, NoMemory>
-    requires built { IsBuilt w.old.words }
+    requires tells { TellsBase w.old.words }
     ensures same { w.new ≡ w.old }
 {
     let leaves = leaves_of(alloc, wanted, root)?;
@@ -84,7 +85,7 @@ fn has_own_leaves(
 
 /// Whether each root has its leaves.
 pub fn has_all_leaves(alloc: Global, w: &mut VecWords, wanted: &[Wanted]) -> Result<bool, NoMemory>
-    requires built { IsBuilt w.old.words }
+    requires tells { TellsBase w.old.words }
     ensures same { w.new ≡ w.old }
 {
     for x in wanted {
@@ -97,7 +98,7 @@ pub fn has_all_leaves(alloc: Global, w: &mut VecWords, wanted: &[Wanted]) -> Res
 
 /// Whether reads of a supervoxel and its root are refused like this at a time.
 fn refuses_time(alloc: Global, w: &mut VecWords, x: &Wanted, at: u64, refusal: &Refusal) -> bool
-    requires built { IsBuilt w.old.words }
+    requires tells { TellsBase w.old.words }
     ensures same { w.new ≡ w.old }
 {
     refuses_supervoxel(alloc, w, x.sv, Some(at), refusal)
@@ -106,7 +107,7 @@ fn refuses_time(alloc: Global, w: &mut VecWords, x: &Wanted, at: u64, refusal: &
 
 /// Whether each read is refused a millisecond before the entry's time, and one behind it.
 pub fn refuses_times(alloc: Global, w: &mut VecWords, wanted: &[Wanted]) -> bool
-    requires built { IsBuilt w.old.words }
+    requires tells { TellsBase w.old.words }
     ensures same { w.new ≡ w.old }
 {
     let early = Refusal::TooEarly { first: AT };
@@ -124,7 +125,7 @@ pub fn refuses_times(alloc: Global, w: &mut VecWords, wanted: &[Wanted]) -> bool
 
 /// Whether an id is no supervoxel's, or refused as a supervoxel.
 fn refuses_unknown(alloc: Global, w: &mut VecWords, wanted: &[Wanted], id: NodeId) -> bool
-    requires built { IsBuilt w.old.words }
+    requires tells { TellsBase w.old.words }
     ensures same { w.new ≡ w.old }
 {
     if is_known(wanted, id) {
@@ -137,7 +138,7 @@ fn refuses_unknown(alloc: Global, w: &mut VecWords, wanted: &[Wanted], id: NodeI
 
 /// Whether the ids next to each supervoxel and its root are refused as supervoxels, unless they are.
 pub fn refuses_others(alloc: Global, w: &mut VecWords, wanted: &[Wanted]) -> bool
-    requires built { IsBuilt w.old.words }
+    requires tells { TellsBase w.old.words }
     ensures same { w.new ≡ w.old }
 {
     for x in wanted {
@@ -156,7 +157,7 @@ pub fn refuses_others(alloc: Global, w: &mut VecWords, wanted: &[Wanted]) -> boo
 
 /// Whether an id is refused like this as a root.
 fn refuses_as_root(alloc: Global, w: &mut VecWords, root: NodeId, refusal: &Refusal) -> bool
-    requires built { IsBuilt w.old.words }
+    requires tells { TellsBase w.old.words }
     ensures same { w.new ≡ w.old }
 {
     refuses_root(alloc, w, root, None, refusal) && refuses_root(alloc, w, root, Some(AT), refusal)
@@ -164,7 +165,7 @@ fn refuses_as_root(alloc: Global, w: &mut VecWords, root: NodeId, refusal: &Refu
 
 /// Whether the id behind the last root is refused as one that no entry made.
 pub fn refuses_next_root(alloc: Global, w: &mut VecWords, wanted: &[Wanted]) -> bool
-    requires built { IsBuilt w.old.words }
+    requires tells { TellsBase w.old.words }
     ensures same { w.new ≡ w.old }
 {
     let id = NodeId(last_root(wanted).0.wrapping_add(1));
@@ -173,7 +174,7 @@ pub fn refuses_next_root(alloc: Global, w: &mut VecWords, wanted: &[Wanted]) -> 
 
 /// Whether an id is refused as one that is no root's.
 fn is_no_root(alloc: Global, w: &mut VecWords, id: NodeId) -> bool
-    requires built { IsBuilt w.old.words }
+    requires tells { TellsBase w.old.words }
     ensures same { w.new ≡ w.old }
 {
     refuses_as_root(alloc, w, id, &Refusal::NotARoot { id })
@@ -181,7 +182,7 @@ fn is_no_root(alloc: Global, w: &mut VecWords, id: NodeId) -> bool
 
 /// Whether each supervoxel is refused as a root, and each node of layer 2 that is none.
 pub fn refuses_lower(alloc: Global, w: &mut VecWords, wanted: &[Wanted]) -> bool
-    requires built { IsBuilt w.old.words }
+    requires tells { TellsBase w.old.words }
     ensures same { w.new ≡ w.old }
 {
     for x in wanted {

@@ -8,6 +8,8 @@ mod datasets;
 #[cfg(test)]
 mod dice;
 #[cfg(test)]
+mod emptying;
+#[cfg(test)]
 mod reads;
 #[cfg(test)]
 mod replies;

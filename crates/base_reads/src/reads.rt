@@ -1,7 +1,7 @@
 //! One read of a base's words each, and whether its reply is what is wanted.
 
 ghost use Rattle.std.specs.Prelude.{◌≡◌};
-ghost use Rattle.base_reads.specs.Built.{IsBuilt};
+ghost use Rattle.base_reads.specs.Emptied.{TellsBase};
 
 use crate::replies::{are_leaves, is_path, is_refused, is_root};
 use node_ids::NodeId;
@@ -11,9 +11,9 @@ use std::alloc::Global;
 use timestamp_reader::answer;
 
 /// Whether a supervoxel has this root.
-#[tactic(auto, using(crate::proofs::Images::built_parents))]
+#[tactic(auto, using(crate::proofs::Images::told_parents))]
 pub fn has_root(alloc: Global, w: &mut VecWords, sv: NodeId, at: Option<u64>, root: NodeId) -> bool
-    requires built { IsBuilt w.old.words }
+    requires tells { TellsBase w.old.words }
     ensures same { w.new ≡ w.old }
 {
     let request = Read::Root { sv, at };
@@ -22,7 +22,7 @@ pub fn has_root(alloc: Global, w: &mut VecWords, sv: NodeId, at: Option<u64>, ro
 }
 
 /// Whether a supervoxel has this path.
-#[tactic(auto, using(crate::proofs::Images::built_parents))]
+#[tactic(auto, using(crate::proofs::Images::told_parents))]
 pub fn has_path(
     alloc: Global,
     w: &mut VecWords,
@@ -30,7 +30,7 @@ pub fn has_path(
     at: Option<u64>,
     path: &PathIds,
 ) -> bool
-    requires built { IsBuilt w.old.words }
+    requires tells { TellsBase w.old.words }
     ensures same { w.new ≡ w.old }
 {
     let request = Read::Path { sv, at };
@@ -39,7 +39,7 @@ pub fn has_path(
 }
 
 /// Whether a root has these leaves.
-#[tactic(auto, using(crate::proofs::Images::built_parents))]
+#[tactic(auto, using(crate::proofs::Images::told_parents))]
 pub fn has_leaves(
     alloc: Global,
     w: &mut VecWords,
@@ -47,7 +47,7 @@ pub fn has_leaves(
     at: Option<u64>,
     leaves: &[NodeId],
 ) -> Result<bool, NoMemory>
-    requires built { IsBuilt w.old.words }
+    requires tells { TellsBase w.old.words }
     ensures same { w.new ≡ w.old }
 {
     let request = Read::Leaves { root, at };
@@ -56,9 +56,9 @@ pub fn has_leaves(
 }
 
 /// Whether a read is refused like this.
-#[tactic(auto, using(crate::proofs::Images::built_parents))]
+#[tactic(auto, using(crate::proofs::Images::told_parents))]
 fn refuses(alloc: Global, w: &mut VecWords, request: &Read, refusal: &Refusal) -> bool
-    requires built { IsBuilt w.old.words }
+    requires tells { TellsBase w.old.words }
     ensures same { w.new ≡ w.old }
 {
     let reply = answer(alloc, w, request);
@@ -73,7 +73,7 @@ pub fn refuses_supervoxel(
     at: Option<u64>,
     refusal: &Refusal,
 ) -> bool
-    requires built { IsBuilt w.old.words }
+    requires tells { TellsBase w.old.words }
     ensures same { w.new ≡ w.old }
 {
     let root = Read::Root { sv, at };
@@ -89,7 +89,7 @@ pub fn refuses_root(
     at: Option<u64>,
     refusal: &Refusal,
 ) -> bool
-    requires built { IsBuilt w.old.words }
+    requires tells { TellsBase w.old.words }
     ensures same { w.new ≡ w.old }
 {
     let request = Read::Leaves { root, at };

@@ -2,7 +2,7 @@
 
 ghost use Rattle.std.specs.Prelude.{◌≡◌};
 ghost use Rattle.op_model.specs.Valid.{IsDataset};
-ghost use Rattle.base_reads.specs.Built.{IsBuilt};
+ghost use Rattle.base_reads.specs.Emptied.{TellsBase};
 
 use crate::checks::{
     AT, has_all_leaves, has_entry, has_paths, has_roots, refuses_lower, refuses_next_root,
@@ -10,12 +10,16 @@ use crate::checks::{
 };
 use crate::datasets::dataset_of;
 use crate::dice::Dice;
+use crate::emptying::empty_edges;
+use crate::reads::{has_leaves, has_path, has_root};
 use crate::tables::{Tables, drawn_tables};
 use crate::wanted::{Wanted, wanted_of};
 use hierarchy_build::build;
-use op_model::Dataset;
+use node_ids::NodeId;
+use op_model::{Dataset, PathIds};
 use pcg_base::{NoMemory, VecWords, Words};
 use plain_hierarchy::{first_entry, record_count};
+use row_samples::{P, Q, R, S};
 use std::alloc::Global;
 use std::test::Fail;
 use table_ingest::read_base;
@@ -39,6 +43,8 @@ enum Subject {
     Supervoxels,
     /// Refusals of ids as roots.
     RootIds,
+    /// How many records of edges were emptied.
+    Edges,
 }
 
 /// The first subject in which the replies are not what is wanted.
@@ -47,7 +53,7 @@ fn differing(
     w: &mut VecWords,
     wanted: &[Wanted],
 ) -> Result<Option<Subject>, NoMemory>
-    requires built { IsBuilt w.old.words }
+    requires tells { TellsBase w.old.words }
     ensures same { w.new ≡ w.old }
 {
     if !has_roots(alloc, w, wanted) {
@@ -71,7 +77,9 @@ fn differing(
     Ok(None)
 }
 
-/// The first subject in which the words that are built of two tables differ from the plain program.
+/// The first subject in which the words that are built of two tables differ from the plain program,
+/// with their records of edges or without.
+#[tactic(auto, using(crate::proofs::Images::built_tells))]
 fn differs(alloc: Global, dataset: &Dataset, tables: &Tables) -> Result<Option<Subject>, Fail>
     requires dataset { IsDataset dataset.now }
 {
@@ -89,6 +97,13 @@ fn differs(alloc: Global, dataset: &Dataset, tables: &Tables) -> Result<Option<S
         return Ok(Some(Subject::Entry));
     }
     let wanted = wanted_of(alloc, dataset, &base)?;
+    let subject = differing(alloc, &mut w, wanted.as_slice())?;
+    if subject.is_some() {
+        return Ok(subject);
+    }
+    if empty_edges(&mut w) != base.edges.list.len() {
+        return Ok(Some(Subject::Edges));
+    }
     Ok(differing(alloc, &mut w, wanted.as_slice())?)
 }
 
@@ -103,5 +118,38 @@ fn drawn_bases_agree(rt: HostRuntime) -> Result<(), Fail> {
         let tables = drawn_tables(alloc, &mut dice, &dataset)?;
         assert_eq!(rt; differs(alloc, &dataset, &tables)?, None, "base {number}");
     }
+    Ok(())
+}
+
+/// The ids p and q of one chunk, r and s of another.
+const SUPERVOXELS: &str =
+    "supervoxel\n72057594037927937\n72057594037927938\n72339069014638593\n72339069014638594\n";
+
+/// Edges that join p, q and r, and one that doesn't join s to them.
+const EDGES: &str =
+    "a,b,affinity,active\n72057594037927937,72057594037927938,10,1\n72057594037927938,72339069014638593,7,1\n72339069014638593,72339069014638594,5,0\n";
+
+#[test]
+#[tactic(auto, using(crate::proofs::Images::built_tells))]
+fn edges_count_for_nothing(rt: HostRuntime) -> Result<(), Fail> {
+    let alloc = rt.alloc();
+    let Some(dataset) = dataset_of(1) else {
+        panic!(rt; "no dataset");
+    };
+    let base = read_base(alloc, SUPERVOXELS.as_bytes(), EDGES.as_bytes(), &dataset)?;
+    let mut w = build(alloc, &base, &dataset, AT)?;
+    assert_eq!(rt; empty_edges(&mut w), 3);
+    let root_1 = NodeId(216172782113783809);
+    let root_2 = NodeId(216172782113783810);
+    let mut path = PathIds {
+        count: 2,
+        nodes: [NodeId(0); 17],
+    };
+    path.nodes[0] = NodeId(144115188075855873);
+    path.nodes[1] = root_1;
+    let three = [NodeId(P), NodeId(Q), NodeId(R)];
+    assert!(rt; has_root(alloc, &mut w, NodeId(S), None, root_2));
+    assert!(rt; has_path(alloc, &mut w, NodeId(P), None, &path));
+    assert!(rt; has_leaves(alloc, &mut w, root_1, None, &three)?);
     Ok(())
 }
