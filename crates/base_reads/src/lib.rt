@@ -15,14 +15,16 @@
 //! - `NoSuchSupervoxel` for ids next to supervoxels, and for roots in their place
 //! - `NotARoot` for supervoxels and lower nodes, and `NoSuchRoot` for the id behind the last root
 //!
-//! Each reply is also asked to have seen one entry. A failure names the base and the first subject
-//! that differs.
+//! Then each word of each record of an edge is written to 0, and all replies are asked for again:
+//! they are owed from the nodes and their links alone. Each reply is also asked to have seen one
+//! entry. A failure names the base and the first subject that differs.
 //!
 //! - `dice`, `datasets`, `tables`: what is drawn
 //! - `wanted`: what the plain program finds
 //! - `reads`, `replies`: one read, and whether its reply is what is wanted
 //! - `checks`: all reads of a subject
-//! - `tests`: the bases, one after the other
+//! - `emptying`: words without their records of edges
+//! - `tests`: the bases, one after the other, and a hand-written one without its edges
 #![tactic(auto)]
 
 #[cfg(test)]
