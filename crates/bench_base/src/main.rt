@@ -9,9 +9,8 @@
 //! last three numbers are 0. Status 1: the words are of another form; 5: memory ran out or the clock failed.
 #![tactic(auto)]
 
-ghost use Rattle.std.specs.Prelude.{◌≤◌, ◌≡◌};
 ghost use Rattle.op_model.specs.Valid.{IsDataset};
-ghost use Rattle.bench_base.specs.Bases.{IsCount, IsReadable, MayBuild};
+ghost use Rattle.bench_base.specs.Bases.{IsCount, MayBuild};
 
 mod steps;
 mod tables;

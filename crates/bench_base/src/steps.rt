@@ -1,7 +1,7 @@
 //! The steps that are timed.
 
-ghost use Rattle.std.specs.Prelude.{◌≡◌, ◌<◌, ◌≤◌, ◌^◌, IfSome, length};
-ghost use Rattle.op_model.specs.Valid.{IsBase, IsDataset};
+ghost use Rattle.std.specs.Prelude.{◌≡◌, IfSome};
+ghost use Rattle.op_model.specs.Valid.{IsDataset};
 ghost use Rattle.bench_base.specs.Bases.{IsReadable, MayBuild};
 
 use hierarchy_build::build;
