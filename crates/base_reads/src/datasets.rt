@@ -20,7 +20,6 @@ pub fn dataset_of(number: usize) -> Option<Dataset>
     dataset(version, bits, grid)
 }
 
-#[tactic(auto, using(crate::proofs::Axes::axis))]
 fn dataset(version: u8, bits: u8, grid: (u32, u32, u32)) -> Option<Dataset>
     ensures { IfSome result IsDataset }
 {

@@ -28,11 +28,4 @@ impl Dice {
     {
         (self.next() % bound as u64) as u32
     }
-
-    /// True once in so many times, which are at least 1.
-    pub fn once_in(&mut self, times: u32) -> bool
-        requires { 1 ≤ times }
-    {
-        self.below(times) == 0
-    }
 }
