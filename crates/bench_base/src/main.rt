@@ -10,7 +10,7 @@
 #![tactic(auto)]
 
 ghost use Rattle.op_model.specs.Valid.{IsDataset};
-ghost use Rattle.bench_base.specs.Bases.{IsCount, MayBuild};
+ghost use Rattle.bench_base.specs.Bases.{IsCount};
 
 mod steps;
 mod tables;
@@ -69,7 +69,7 @@ fn build_and_read<R: Clock>(
     seed: u64,
 ) -> Option<Timed>
     requires dataset { IsDataset dataset.now }
-    requires base { MayBuild dataset.now base.now }
+    requires base { IsBase dataset.now base.now }
 {
     let (mut words, build) = time_build(rt, alloc, base, dataset)?;
     let roots = time_roots(

@@ -1,8 +1,8 @@
 //! The steps that are timed.
 
 ghost use Rattle.std.specs.Prelude.{◌≡◌, IfSome};
-ghost use Rattle.op_model.specs.Valid.{IsDataset};
-ghost use Rattle.bench_base.specs.Bases.{IsReadable, MayBuild};
+ghost use Rattle.op_model.specs.Valid.{IsBase, IsDataset};
+ghost use Rattle.bench_base.specs.Bases.{IsReadable};
 
 use hierarchy_build::build;
 use node_ids::NodeId;
@@ -28,11 +28,8 @@ pub fn time_read<R: Clock>(
     edges: &[u8],
     dataset: &Dataset,
 ) -> Option<(Base, u128)>
-    ensures { IfSome result (λ p. MayBuild dataset.now p.0) }
+    ensures { IfSome result (λ p. IsBase dataset.now p.0) }
 {
-    if supervoxels.len() > 1073741824 {
-        return None;
-    }
     let start = Instant::now(rt).ok()?;
     let base = read_base(alloc, supervoxels, edges, dataset).ok()?;
     let time = start.elapsed(rt).ok()?;
@@ -47,7 +44,7 @@ pub fn time_build<R: Clock>(
     dataset: &Dataset,
 ) -> Option<(VecWords, u128)>
     requires dataset { IsDataset dataset.now }
-    requires base { MayBuild dataset.now base.now }
+    requires base { IsBase dataset.now base.now }
     ensures { IfSome result (λ p. IsReadable p.0.words) }
 {
     let start = Instant::now(rt).ok()?;

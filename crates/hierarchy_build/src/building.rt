@@ -65,8 +65,7 @@ fn error_of(dataset: &Dataset, error: LayersError) -> BuildError
 }
 
 /// The words of the log of a base's first entry, with room for all further records of the dataset's
-/// capacity. The base has fewer than 2^32 supervoxels. The entry's timestamp is `now` in
-/// milliseconds, or 2^62 - 1 where `now` is greater.
+/// capacity. The entry's timestamp is `now` in milliseconds, or 2^62 - 1 where `now` is greater.
 ///
 /// Time is n log n in supervoxels, edges and nodes, and linear in the layers times the supervoxels.
 ///
@@ -82,12 +81,14 @@ pub fn build(
 ) -> Result<VecWords, BuildError>
     requires dataset { IsDataset dataset.now }
     requires base { IsBase dataset.now base.now }
-    requires size { length base.now.supervoxels < 2 ^ 32 }
     ensures image { IfOk result (λ w. Image dataset.now base.now (ingested dataset.now base.now (min now (2 ^ 62 - 1))) w.words) }
     ensures room { IfOk result (λ w. 8 * dataset.now.capacity ≤ length w.words + w.spare) }
     ensures refused { IfErr result (λ e. IsRefused dataset.now base.now e) }
     ensures fits { OnOk result ((e : TheBuildError) → IsFull dataset.now base.now e → ⊥) }
 {
+    if ids_of(base).len() > u32::MAX as usize {
+        return Err(BuildError::NoMemory);
+    }
     let layers = match build_layers(alloc, dataset, base) {
         Ok(layers) => layers,
         Err(error) => return Err(error_of(dataset, error)),

@@ -20,6 +20,7 @@ pub enum BuildError {
     IdsSpent { layer: u8, x: u32, y: u32, z: u32 },
     /// The base and its first entry need more records than the dataset's capacity, which is `given`.
     TooSmall { need: u64, given: u32 },
-    /// There was no memory for the work. It may come at any time.
+    /// There was no memory for the work, or the base has 2^32 supervoxels or more, whose places need
+    /// more than 32 bits. It may come at any time.
     NoMemory,
 }

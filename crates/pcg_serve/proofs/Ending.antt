@@ -4,7 +4,7 @@ use Rattle.std.specs.Prelude.{◌⊎◌, ◌↔◌, IsSome, is_some, option_to_l
 use Rattle.std.specs.FinMap.{get, insert}
 use Rattle.std.specs.Io.KnownBytes.{Appends, Consumes, IsAtEnd}
 use Rattle.op_model.specs.declared.Reply.{Reply}
-use Rattle.request_lines.specs.Texts.{reply_text}
+use Rattle.request_lines.specs.Texts.{text_of_reply}
 use Rattle.pcg_base.specs.Told.{Files, KeepsFiles, PutsFile, PutsHeld, TellsAt, TellsTo, AppendsFront}
 use Rattle.pcg_words.specs.Job.{request_file, answer_file}
 use Rattle.pcg_serve.specs.declared.ingest.Ingest.{Ingest}
@@ -42,7 +42,7 @@ has_texts (Some xs) (Some ys) written None e w =
     (ys, refl, w ∙ ap (λ z. z ++ texts written) none)
 has_texts (Some xs) held' written (Some r) e w = go w.0 held' w.1 w.2
   where
-    go : (between after : Option (List ℕ)) → Appends (Some xs) between (texts written) → AppendsFront between after (reply_text r) → (answers : List ℕ) × (after ≡ Some answers) × HasTexts answers written (Some r)
+    go : (between after : Option (List ℕ)) → Appends (Some xs) between (texts written) → AppendsFront between after (text_of_reply r) → (answers : List ℕ) × (after ≡ Some answers) × HasTexts answers written (Some r)
     go None after a f = absurd a
     go (Some zs) None a f = absurd f
     go (Some zs) (Some ys) a f =

@@ -20,7 +20,7 @@ use Rattle.pcg_serve.proofs.Leaves.{leaf_only, leaf_has}
 use Rattle.pcg_serve.proofs.Causing.{caused}
 use Rattle.hierarchy_build.specs.declared.errors.BuildError.{BuildError}
 use Rattle.hierarchy_build.specs.Built.{IsFull}
-use Rattle.request_lines.specs.Texts.{entry_text}
+use Rattle.request_lines.specs.Texts.{text_of_entry}
 use Rattle.pcg_base.specs.Told.{Files, KeepsFiles}
 use Rattle.pcg_words.specs.declared.job.RehearseJob.{RehearseJob}
 use Rattle.pcg_words.specs.Job.{request_file}
@@ -60,11 +60,11 @@ leaves_of i ok = λ t v w early late hv.
 -- what is printed of a log of one entry and one client's replies
 text_of : (d : Dataset) (b : Base) (e : Entry) (stem : List ℕ) (rs : List Reply) (s : Summary) → s.accepted ≡ 0 → s.clients ≡ 1 → s.entries ≡ 1 → s.faults.items ≡ [] → s.lines ≡ length rs
     → s.records ≡ records d b (e ∷ []) → s.refused ≡ count_by refuses rs → s.roots ≡ length e.made → s.status ≡ 0
-    → entry_text e ++ summary_text s ≡ log_text (e ∷ [])
+    → text_of_entry e ++ summary_text s ≡ log_text (e ∷ [])
     ++ summary_line (length (e ∷ []) - 1) (length (stem ∷ [])) (length (e ∷ [])) [] (reply_count (rs ∷ [])) (records d b (e ∷ [])) (refusal_count (rs ∷ [])) (length (live_roots (e ∷ []))) 0
 unfolding log_text live_roots reply_count refusal_count
 text_of d b e stem rs s h0 h1 h2 h3 h4 h5 h6 h7 h8 =
-    ap (λ t. entry_text e ++ t)
+    ap (λ t. text_of_entry e ++ t)
     (ap (λ n. summary_line n s.clients s.entries s.faults.items s.lines s.records s.refused s.roots s.status) h0
     ∙ ap (λ n. summary_line 0 n s.entries s.faults.items s.lines s.records s.refused s.roots s.status) h1
     ∙ ap (λ n. summary_line 0 1 n s.faults.items s.lines s.records s.refused s.roots s.status) h2
@@ -78,7 +78,7 @@ text_of d b e stem rs s h0 h1 h2 h3 h4 h5 h6 h7 h8 =
 history_of : (i : Ingest) (stem : List ℕ) (before after : Files) (s : Session) (summary : Summary) → IsIngest i → ClientDone i stem before after s
     → summary.accepted ≡ 0 → summary.clients ≡ 1 → summary.entries ≡ 1 → summary.faults.items ≡ [] → summary.lines ≡ s.lines → summary.records ≡ i.records
     → summary.refused ≡ s.refused → summary.roots ≡ length i.entry.made → summary.status ≡ 0
-    → History i.dataset i.base before after (stem ∷ []) (entry_text i.entry ++ summary_text summary)
+    → History i.dataset i.base before after (stem ∷ []) (text_of_entry i.entry ++ summary_text summary)
 unfolding answered
 history_of i stem before after s summary ok c h0 h1 h2 h3 h4 h5 h6 h7 h8 = record {
   log = log_of i;
@@ -95,15 +95,15 @@ pub done_at : (job : RehearseJob) (i : Ingest) (stem : List ℕ) (f0 f1 f2 : Opt
     → HasBase f0 job i.base → KeepsFiles f0 f1 → ClientDoneAt i stem f1 f2 s → job.stems ≡ stem ∷ []
     → summary.accepted ≡ 0 → summary.clients ≡ 1 → summary.entries ≡ 1 → summary.faults.items ≡ [] → summary.lines ≡ s.lines → summary.records ≡ i.records
     → summary.refused ≡ s.refused → summary.roots ≡ length i.entry.made → summary.status ≡ 0
-    → DoneAt job f0 f2 (entry_text i.entry ++ summary_text summary)
+    → DoneAt job f0 f2 (text_of_entry i.entry ++ summary_text summary)
 done_at job i stem None f1 f2 s summary ok made base kept c one h0 h1 h2 h3 h4 h5 h6 h7 h8 = tt
 done_at job i stem (Some m) f1 None s summary ok made base kept c one h0 h1 h2 h3 h4 h5 h6 h7 h8 =
     let C : Option Files → Type 0 = λ f. ClientDoneAt i stem f None s in
     absurd (subst C kept c)
 done_at job i stem (Some m) f1 (Some m') s summary ok made base kept c one h0 h1 h2 h3 h4 h5 h6 h7 h8 =
     let C : Option Files → Type 0 = λ f. ClientDoneAt i stem f (Some m') s in
-    let S : List (List ℕ) → Type 0 = λ stems. History i.dataset i.base m m' stems (entry_text i.entry ++ summary_text summary) in
-    let D : Dataset → Type 0 = λ d. History d i.base m m' job.stems (entry_text i.entry ++ summary_text summary) in
+    let S : List (List ℕ) → Type 0 = λ stems. History i.dataset i.base m m' stems (text_of_entry i.entry ++ summary_text summary) in
+    let D : Dataset → Type 0 = λ d. History d i.base m m' job.stems (text_of_entry i.entry ++ summary_text summary) in
     (i.base, base, subst D made (subst S (sym one) (history_of i stem m m' s summary ok (subst C kept c) h0 h1 h2 h3 h4 h5 h6 h7 h8)))
 
 pub is_done : (job : RehearseJob) (before after : Option Files) (old new : Option (List ℕ)) (text : List ℕ) → Appends old new text → DoneAt job before after text → IsDone job before after old new
@@ -114,11 +114,11 @@ is_done job before after (Some xs) (Some ys) text a h = (text, a, h)
 -- what is printed of a log of one entry, however the session ended
 text_past : (d : Dataset) (b : Base) (e : Entry) (fault : Option Fault) (s : Summary) → s.accepted ≡ 0 → s.clients ≡ 1 → s.entries ≡ 1 → s.faults.items ≡ faults_of fault
     → s.records ≡ records d b (e ∷ []) → s.roots ≡ length e.made → s.status ≡ fault_status fault
-    → entry_text e ++ summary_text s ≡ log_text (e ∷ [])
+    → text_of_entry e ++ summary_text s ≡ log_text (e ∷ [])
     ++ summary_line (length (e ∷ []) - 1) 1 (length (e ∷ [])) (faults_of fault) s.lines (records d b (e ∷ [])) s.refused (length (live_roots (e ∷ []))) (fault_status fault)
 unfolding log_text live_roots
 text_past d b e fault s h0 h1 h2 h3 h5 h7 h8 =
-    ap (λ t. entry_text e ++ t)
+    ap (λ t. text_of_entry e ++ t)
     (ap (λ n. summary_line n s.clients s.entries s.faults.items s.lines s.records s.refused s.roots s.status) h0
     ∙ ap (λ n. summary_line 0 n s.entries s.faults.items s.lines s.records s.refused s.roots s.status) h1
     ∙ ap (λ n. summary_line 0 1 n s.faults.items s.lines s.records s.refused s.roots s.status) h2
@@ -146,7 +146,7 @@ pub came_past : (files f1 f2 : Option Files) (left : List ℕ → List ℕ) (ste
     → IsLater a b → FaultCause fault stem b c
     → summary.accepted ≡ 0 → summary.clients ≡ 1 → summary.entries ≡ 1 → summary.faults.items ≡ faults_of fault → summary.records ≡ i.records
     → summary.roots ≡ length i.entry.made → summary.status ≡ fault_status fault
-    → CamePast files f2 left job a c (entry_text i.entry ++ summary_text summary) summary.status
+    → CamePast files f2 left job a c (text_of_entry i.entry ++ summary_text summary) summary.status
 came_past files f1 f2 left stem job i fault summary a b c ok made base read kept sole one ends later why h0 h1 h2 h3 h5 h7 h8 =
     let L : Dataset → Type 0 = λ d. Legal d i.base (log_of i) in
     let F : Dataset → Type 0 = λ d. (e : BuildError) → IsFull d i.base e → ⊥ in

@@ -9,7 +9,7 @@ use Rattle.op_model.specs.declared.Entry.{Entry}
 use Rattle.op_model.specs.declared.Reply.{Reply}
 use Rattle.op_model.specs.Transcript.{Line}
 use Rattle.request_lines.specs.Lines.{lines_of}
-use Rattle.request_lines.specs.Texts.{reply_text}
+use Rattle.request_lines.specs.Texts.{text_of_reply}
 use Rattle.pcg_base.specs.Told.{AppendsFront}
 use Rattle.pcg_base.proofs.Appending.{appends_more}
 use Rattle.pcg_serve.specs.declared.session.Session.{Session}
@@ -18,11 +18,11 @@ use Rattle.pcg_serve.specs.Sessions.{asked_line, asked_of, Answers, Serves, Repl
 texts-append : (rs more : List Reply) → texts (rs ++ more) ≡ texts rs ++ texts more
 unfolding texts
 texts-append [] more = refl
-texts-append (r ∷ rs) more = ap (λ t. reply_text r ++ t) (texts-append rs more) ∙ sym (append_assoc (reply_text r) (texts rs) (texts more))
+texts-append (r ∷ rs) more = ap (λ t. text_of_reply r ++ t) (texts-append rs more) ∙ sym (append_assoc (text_of_reply r) (texts rs) (texts more))
 
-texts-one : (r : Reply) → texts (r ∷ []) ≡ reply_text r
+texts-one : (r : Reply) → texts (r ∷ []) ≡ text_of_reply r
 unfolding texts
-texts-one r = append-nil (reply_text r)
+texts-one r = append-nil (text_of_reply r)
 
 appends_none : (held : Option (List ℕ)) → Appends held held []
 appends_none None = tt
@@ -58,14 +58,14 @@ left rest line next e = ap (map asked_line) e
 
 pub goes_on : (d : Dataset) (b : Base) (log : List Entry) (stream rest line next : List ℕ) (held between held' : Option (List ℕ)) (lines refused : ℕ) (r : Reply)
     → SoFar d b log stream rest held between lines refused → lines_of rest ≡ line ∷ lines_of next → Answers d b log (asked_line line) r
-    → Appends between held' (reply_text r) → SoFar d b log stream next held held' (lines + 1) (refused + cond (refuses r) 1 0)
+    → Appends between held' (text_of_reply r) → SoFar d b log stream next held held' (lines + 1) (refused + cond (refuses r) 1 0)
 goes_on d b log stream rest line next held between held' lines refused r so e a w = record {
   done = so.done ++ asked_line line ∷ [];
   written = so.written ++ r ∷ [];
   split = so.split ∙ ap (λ ls. so.done ++ ls) (left rest line next e) ∙ sym (append_assoc so.done (asked_line line ∷ []) (asked_of next));
   serves = serves_more d b log so.done so.written (asked_line line) r [] so.serves so.each a;
   each = length-append so.written (r ∷ []) ∙ omega (arith, so.each, length-append so.done (asked_line line ∷ []));
-  wrote = appends_more held between held' (texts so.written) (reply_text r) (texts (so.written ++ r ∷ [])) (texts-append so.written (r ∷ []) ∙ ap (λ t. texts so.written ++ t) (texts-one r)) so.wrote w;
+  wrote = appends_more held between held' (texts so.written) (text_of_reply r) (texts (so.written ++ r ∷ [])) (texts-append so.written (r ∷ []) ∙ ap (λ t. texts so.written ++ t) (texts-one r)) so.wrote w;
   count = omega (arith, so.count, length-append so.written (r ∷ []));
   noes = ap (λ n. n + cond (refuses r) 1 0) so.noes ∙ sym (count_more so.written r);
 }
@@ -90,7 +90,7 @@ ends d b log stream rest held held' s so e f =
 -- the writing of a reply failed
 pub breaks : (d : Dataset) (b : Base) (log : List Entry) (stream rest line next : List ℕ) (held between held' : Option (List ℕ)) (s : Session) (r : Reply)
     → SoFar d b log stream rest held between s.lines s.refused → lines_of rest ≡ line ∷ lines_of next → Answers d b log (asked_line line) r
-    → AppendsFront between held' (reply_text r) → s.failed ≡ true → Did d b log (asked_of stream) held held' s
+    → AppendsFront between held' (text_of_reply r) → s.failed ≡ true → Did d b log (asked_of stream) held held' s
 breaks d b log stream rest line next held between held' s r so e a w f = record {
   written = so.written;
   last = Some r;

@@ -15,7 +15,7 @@ use Rattle.op_model.specs.Records.{records}
 use Rattle.op_model.specs.Refusals.{first_at, last_at, prefix_at}
 use Rattle.op_model.specs.Legal.{Legal}
 use Rattle.op_model.specs.Transcript.{WholeTranscript}
-use Rattle.request_lines.specs.Texts.{entry_text, reply_text}
+use Rattle.request_lines.specs.Texts.{text_of_entry, text_of_reply}
 use Rattle.pcg_base.specs.Causes.{Rose}
 use Rattle.pcg_base.specs.Told.{AppendsFront, Files, KeepsFiles}
 use Rattle.pcg_words.specs.declared.job.RehearseJob.{RehearseJob}
@@ -43,7 +43,7 @@ use Rattle.pcg_serve.specs.Texts.{stop_text, summary_line}
 -- the lines of a log, its oldest entry first
 unfoldable pub log_text : List Entry → List ℕ
 log_text [] = []
-log_text (e ∷ log) = log_text log ++ entry_text e
+log_text (e ∷ log) = log_text log ++ text_of_entry e
 
 -- the roots that entries made and none retired
 unfoldable pub live_roots : List Entry → List ℕ
@@ -158,7 +158,7 @@ pub record SessionEnd (i : Ingest) (left left' held held' : Option (List ℕ)) (
 -- an answer file has the texts of these replies, and a front of the text of the one whose writing failed
 abbrev pub HasTexts : List ℕ → List Reply → Option Reply → Type 0
 HasTexts answers written None = answers ≡ texts written
-HasTexts answers written (Some r) = (front rest : List ℕ) × (reply_text r ≡ front ++ rest) × (answers ≡ texts written ++ front)
+HasTexts answers written (Some r) = (front rest : List ℕ) × (text_of_reply r ≡ front ++ rest) × (answers ≡ texts written ++ front)
 
 -- How a client's session ended: its requests are the bytes that were taken, no more than are read of a stream, and those that the place keeps as left, its replies a transcript of what the served ones ask, and its answer file holds their texts.
 pub record ClientEnd (d : Dataset) (b : Base) (log : List Entry) (before after : Files) (left stem : List ℕ) (fault : Option Fault) (lines refused : ℕ) : Type 0 where

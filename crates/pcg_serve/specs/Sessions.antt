@@ -14,7 +14,7 @@ use Rattle.op_model.specs.declared.Request.TheVariants as request
 use Rattle.op_model.specs.Transcript.{Line, Asks, Faulty, Unbuilt, Transcript}
 use Rattle.request_lines.specs.Lines.{lines_of}
 use Rattle.request_lines.specs.Asking.{asked}
-use Rattle.request_lines.specs.Texts.{reply_text}
+use Rattle.request_lines.specs.Texts.{text_of_reply}
 use Rattle.pcg_base.specs.Told.{AppendsFront}
 use Rattle.pcg_serve.specs.declared.session.Session.{Session}
 
@@ -51,7 +51,7 @@ Serves d b log (line ∷ lines) (r ∷ rs) = Answers d b log line r × Serves d 
 -- the texts of replies, one behind the other
 unfoldable pub texts : List Reply → List ℕ
 texts [] = []
-texts (r ∷ rs) = reply_text r ++ texts rs
+texts (r ∷ rs) = text_of_reply r ++ texts rs
 
 -- whether a reply says no: its text has "ok":false
 abbrev pub refuses : Reply → Bool
@@ -68,7 +68,7 @@ refuses reply.NotBuilt = true
 -- known bytes grew by the texts of the replies, and by a front of the text of the one whose writing failed
 abbrev pub Wrote : Option (List ℕ) → Option (List ℕ) → List Reply → Option Reply → Type 0
 Wrote held held' written None = Appends held held' (texts written)
-Wrote held held' written (Some r) = (between : Option (List ℕ)) × Appends held between (texts written) × AppendsFront between held' (reply_text r)
+Wrote held held' written (Some r) = (between : Option (List ℕ)) × Appends held between (texts written) × AppendsFront between held' (text_of_reply r)
 
 -- What a session did: the replies that it wrote, and the one whose writing failed, if one did. Without one every line has its reply.
 pub record Did (d : Dataset) (b : Base) (log : List Entry) (lines : List Line) (held held' : Option (List ℕ)) (s : Session) : Type 0 where
@@ -83,8 +83,8 @@ pub record Did (d : Dataset) (b : Base) (log : List Entry) (lines : List Line) (
 
 -- a reply was written and counted, or its writing failed
 pub record Counts (held held' : Option (List ℕ)) (r : Reply) (before after : Session) : Type 0 where
-  pub wrote : after.failed ≡ false → Appends held held' (reply_text r)
-  pub broke : after.failed ≡ true → AppendsFront held held' (reply_text r)
+  pub wrote : after.failed ≡ false → Appends held held' (text_of_reply r)
+  pub broke : after.failed ≡ true → AppendsFront held held' (text_of_reply r)
   pub count : after.failed ≡ false → after.lines ≡ before.lines + 1
   pub noes : after.failed ≡ false → after.refused ≡ before.refused + (if refuses r then 1 else 0)
   pub same : after.failed ≡ true → (after.lines ≡ before.lines) × (after.refused ≡ before.refused)

@@ -117,7 +117,6 @@ pub fn make_ingest(
     edges: &[u8],
 ) -> Result<Begun, Stop>
     requires ranges { HasRanges job.now }
-    requires size { length supervoxels.now ≤ 1073741824 }
     ensures made { IfOk result (λ b. IsIngest b.ingest) }
     ensures words { IfOk result (λ b. AreWords b.ingest b.words.words) }
     ensures dataset { IfOk result (λ b. b.ingest.dataset ≡ dataset_of job.now) }

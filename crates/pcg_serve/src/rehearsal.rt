@@ -5,7 +5,7 @@ ghost use Rattle.std.specs.Io.KnownBytes.{Appends};
 ghost use Rattle.pcg_base.specs.Causes.{HasCause, Rose};
 ghost use Rattle.pcg_base.specs.Told.{AppendsFront};
 ghost use Rattle.pcg_words.specs.Job.{IsJob};
-ghost use Rattle.request_lines.specs.Texts.{entry_text};
+ghost use Rattle.request_lines.specs.Texts.{text_of_entry};
 ghost use Rattle.pcg_serve.specs.Causes.{EndsSo, HasBadTable, HasFullBase, HasLongTable, IsDue, IsUnbuilt, StatusSo, StopCause, has_one_client};
 ghost use Rattle.pcg_serve.specs.Headline.{CamePast, DoneAt, IsDone, IsQuiet, KeepsOthers, Outcome, Prints, fault_status, faults_of};
 ghost use Rattle.pcg_serve.specs.Ingests.{IsIngest};
@@ -106,8 +106,8 @@ fn summary_of(ingest: &Ingest, ended: Ended, faults: Vec<ClientFault>) -> Summar
 fn rehearse<P: Place>(alloc: Global, job: &RehearseJob, place: &mut P) -> Result<Rehearsed, Stop>
     requires { IsJob job.now }
     ensures stop { IfErr result (λ stop. StopCause (P.files place.old) (P.files place.new) (P.left_at place.new) job.now (record { reads = P.read_faults place.old; writes = P.write_faults place.old; counts = P.counts place.old }) (record { reads = P.read_faults place.new; writes = P.write_faults place.new; counts = P.counts place.new }) stop) }
-    ensures done { IfOk result (λ r. r.summary.status ≡ 0 → DoneAt job.now (P.files place.old) (P.files place.new) (entry_text r.ingest.entry ++ summary_text r.summary)) }
-    ensures came { IfOk result (λ r. CamePast (P.files place.old) (P.files place.new) (P.left_at place.new) job.now (record { reads = P.read_faults place.old; writes = P.write_faults place.old; counts = P.counts place.old }) (record { reads = P.read_faults place.new; writes = P.write_faults place.new; counts = P.counts place.new }) (entry_text r.ingest.entry ++ summary_text r.summary) r.summary.status) }
+    ensures done { IfOk result (λ r. r.summary.status ≡ 0 → DoneAt job.now (P.files place.old) (P.files place.new) (text_of_entry r.ingest.entry ++ summary_text r.summary)) }
+    ensures came { IfOk result (λ r. CamePast (P.files place.old) (P.files place.new) (P.left_at place.new) job.now (record { reads = P.read_faults place.old; writes = P.write_faults place.old; counts = P.counts place.old }) (record { reads = P.read_faults place.new; writes = P.write_faults place.new; counts = P.counts place.new }) (text_of_entry r.ingest.entry ++ summary_text r.summary) r.summary.status) }
     ensures others { KeepsOthers job.now.stems (P.files place.old) (P.files place.new) }
     ensures status { IfOk result (λ r. EndsSo (P.read_faults place.old) (P.read_faults place.new) (P.write_faults place.old) (P.write_faults place.new) r.summary.status) }
     ensures reads { P.read_faults place.old ≤ P.read_faults place.new }
@@ -131,8 +131,8 @@ fn rehearse<P: Place>(alloc: Global, job: &RehearseJob, place: &mut P) -> Result
 
 /// Writes the log and the summary.
 fn print<K: Sink>(done: &Rehearsed, out: &mut K) -> Result<(), Failed>
-    ensures ok { OnOk result (Appends (K.held out.old) (K.held out.new) (entry_text done.now.ingest.entry ++ summary_text done.now.summary)) }
-    ensures err { OnErr result (AppendsFront (K.held out.old) (K.held out.new) (entry_text done.now.ingest.entry ++ summary_text done.now.summary)) }
+    ensures ok { OnOk result (Appends (K.held out.old) (K.held out.new) (text_of_entry done.now.ingest.entry ++ summary_text done.now.summary)) }
+    ensures err { OnErr result (AppendsFront (K.held out.old) (K.held out.new) (text_of_entry done.now.ingest.entry ++ summary_text done.now.summary)) }
     ensures cause { HasCause (K.faults out.old) (K.faults out.new) result }
 {
     write_entry(&done.ingest.entry, out)?;
@@ -143,8 +143,8 @@ fn print<K: Sink>(done: &Rehearsed, out: &mut K) -> Result<(), Failed>
 /// Writes the log and the summary, and answers the status.
 fn finish<K: Sink>(done: &Rehearsed, out: &mut K) -> u8
     ensures status { StatusSo (K.faults out.old) (K.faults out.new) done.now.summary.status result }
-    ensures line { Prints (K.held out.old) (K.held out.new) (K.faults out.old) (K.faults out.new) (entry_text done.now.ingest.entry ++ summary_text done.now.summary) }
-    ensures printed { result ≡ 0 → (done.now.summary.status ≡ 0) × Appends (K.held out.old) (K.held out.new) (entry_text done.now.ingest.entry ++ summary_text done.now.summary) }
+    ensures line { Prints (K.held out.old) (K.held out.new) (K.faults out.old) (K.faults out.new) (text_of_entry done.now.ingest.entry ++ summary_text done.now.summary) }
+    ensures printed { result ≡ 0 → (done.now.summary.status ≡ 0) × Appends (K.held out.old) (K.held out.new) (text_of_entry done.now.ingest.entry ++ summary_text done.now.summary) }
     ensures later { K.faults out.old ≤ K.faults out.new }
 {
     let printed = print(done, out).is_ok();

@@ -3,7 +3,6 @@ pub mod Json
 pub mod Items
 pub mod Refused
 pub mod Texts
-pub mod Plain
 pub mod Lines
 pub mod Fields
 pub mod Asking

@@ -31,16 +31,16 @@ edited_text op at retired made (Some shown) seen =
     ∷ member (codes "made") (ids_text made) ∷ is_ok ∷ member (codes "op") (decimal op)
     ∷ member (codes "retired") (ids_text retired) ∷ member (codes "seen") (decimal seen) ∷ member (codes "total") (decimal shown.total) ∷ [])
 
-unfoldable pub reply_text : Reply → List ℕ
-reply_text (reply.Root root seen) = line (is_ok ∷ member (codes "root") (id_text root) ∷ member (codes "seen") (decimal seen) ∷ [])
-reply_text (reply.Path nodes seen) = line (is_ok ∷ member (codes "path") (ids_text nodes) ∷ member (codes "seen") (decimal seen) ∷ [])
-reply_text (reply.Leaves leaves seen) = line (member (codes "leaves") (ids_text leaves) ∷ is_ok ∷ member (codes "seen") (decimal seen) ∷ [])
-reply_text (reply.Changes ops seen) = line (member (codes "changes") (array (map summary_text ops)) ∷ is_ok ∷ member (codes "seen") (decimal seen) ∷ [])
-reply_text (reply.Edited op at retired made shown seen) = edited_text op at retired made shown seen
-reply_text (reply.Refused refusal seen) = refused_text refusal seen
-reply_text (reply.BadLine error) = bad_line_text error
-reply_text reply.NoMemory = bare (codes "NoMemory")
-reply_text reply.NotBuilt = bare (codes "NotBuilt")
+unfoldable pub text_of_reply : Reply → List ℕ
+text_of_reply (reply.Root root seen) = line (is_ok ∷ member (codes "root") (id_text root) ∷ member (codes "seen") (decimal seen) ∷ [])
+text_of_reply (reply.Path nodes seen) = line (is_ok ∷ member (codes "path") (ids_text nodes) ∷ member (codes "seen") (decimal seen) ∷ [])
+text_of_reply (reply.Leaves leaves seen) = line (member (codes "leaves") (ids_text leaves) ∷ is_ok ∷ member (codes "seen") (decimal seen) ∷ [])
+text_of_reply (reply.Changes ops seen) = line (member (codes "changes") (array (map summary_text ops)) ∷ is_ok ∷ member (codes "seen") (decimal seen) ∷ [])
+text_of_reply (reply.Edited op at retired made shown seen) = edited_text op at retired made shown seen
+text_of_reply (reply.Refused refusal seen) = refused_text refusal seen
+text_of_reply (reply.BadLine error) = bad_line_text error
+text_of_reply reply.NoMemory = bare (codes "NoMemory")
+text_of_reply reply.NotBuilt = bare (codes "NotBuilt")
 
 -- a merge of one pair names its ends, any other lists its pairs
 unfoldable pub merge_text : List AskedPair → List ℕ
@@ -60,8 +60,8 @@ asked_text asked.Ingest = object (member (codes "do") (quoted (codes "ingest")) 
 asked_text (asked.Edit edit) = edit_text edit
 
 -- a line of the operation log
-unfoldable pub entry_text : Entry → List ℕ
-entry_text e =
+unfoldable pub text_of_entry : Entry → List ℕ
+text_of_entry e =
     line (member (codes "at") (decimal e.at) ∷ member (codes "changed") (array (map changed_text e.changed)) ∷ member (codes "client") (decimal e.client)
     ∷ member (codes "line") (decimal e.line) ∷ member (codes "made") (ids_text e.made) ∷ member (codes "op") (decimal e.number)
     ∷ member (codes "request") (asked_text e.asked) ∷ member (codes "retired") (ids_text e.retired) ∷ [])

@@ -5,7 +5,7 @@ ghost use Rattle.std.specs.Io.KnownBytes.{Appends};
 ghost use Rattle.pcg_base.specs.Causes.{HasCause};
 ghost use Rattle.pcg_base.specs.Told.{AppendsFront};
 ghost use Rattle.request_lines.specs.Sent.{Puts};
-ghost use Rattle.request_lines.specs.Texts.{asked_text, edit_text, entry_text, merge_text};
+ghost use Rattle.request_lines.specs.Texts.{asked_text, edit_text, text_of_entry, merge_text};
 
 use crate::lists::put_list;
 use crate::page::Page;
@@ -68,7 +68,7 @@ fn put_asked<K: Sink>(page: &mut Page, out: &mut K, asked: &Asked)
 
 /// Puts a line of the operation log.
 fn put_entry<K: Sink>(page: &mut Page, out: &mut K, entry: &Entry)
-    ensures { Puts (K.held out.old) (K.held out.new) (K.faults out.old) (K.faults out.new) page.old page.new (entry_text entry.now) }
+    ensures { Puts (K.held out.old) (K.held out.new) (K.faults out.old) (K.faults out.new) page.old page.new (text_of_entry entry.now) }
 {
     page.put_number(out, b"{\"at\":", entry.at);
     page.put(out, b",\"changed\":");
@@ -88,8 +88,8 @@ fn put_entry<K: Sink>(page: &mut Page, out: &mut K, entry: &Entry)
 /// flush failed, a front of the text was written. It takes no memory.
 #[tactic(auto, using(crate::proofs::Whole::whole_ok, crate::proofs::Whole::whole_err, crate::proofs::Whole::whole_cause))]
 pub fn write_entry<K: Sink>(entry: &Entry, out: &mut K) -> Result<(), Failed>
-    ensures ok { OnOk result (Appends (K.held out.old) (K.held out.new) (entry_text entry.now)) }
-    ensures err { OnErr result (AppendsFront (K.held out.old) (K.held out.new) (entry_text entry.now)) }
+    ensures ok { OnOk result (Appends (K.held out.old) (K.held out.new) (text_of_entry entry.now)) }
+    ensures err { OnErr result (AppendsFront (K.held out.old) (K.held out.new) (text_of_entry entry.now)) }
     ensures cause { HasCause (K.faults out.old) (K.faults out.new) result }
 {
     let mut page = Page::new();

@@ -4,7 +4,7 @@
 //!
 //! - `replies`, `refused`: the replies;
 //! - `entries`: the lines of the operation log;
-//! - `lines`, `plain`: the lines of a stream, and the one form of a request line that is read without JSON;
+//! - `lines`: the lines of a stream;
 //! - `items`, `lists`: ids, pairs and carries, and lists of them;
 //! - `reading`, `fields`: the request of a line, and its fields;
 //! - `page`: the page on which a text waits for its sink.
@@ -18,7 +18,6 @@ mod line_tests;
 mod lines;
 mod lists;
 mod page;
-mod plain;
 mod reading;
 mod refused;
 mod replies;
@@ -29,6 +28,5 @@ pub use entries::write_entry;
 pub use lines::split_line;
 pub use lists::{Written, put_list};
 pub use page::Page;
-pub use plain::read_plain_line;
 pub use reading::read_line;
 pub use replies::write_reply;

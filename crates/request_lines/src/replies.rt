@@ -5,7 +5,7 @@ ghost use Rattle.std.specs.Io.KnownBytes.{Appends};
 ghost use Rattle.pcg_base.specs.Causes.{HasCause};
 ghost use Rattle.pcg_base.specs.Told.{AppendsFront};
 ghost use Rattle.request_lines.specs.Sent.{Puts};
-ghost use Rattle.request_lines.specs.Texts.{edited_text, ids_text, reply_text};
+ghost use Rattle.request_lines.specs.Texts.{edited_text, ids_text, text_of_reply};
 
 use crate::lists::put_list;
 use crate::page::Page;
@@ -16,7 +16,7 @@ use pcg_base::{Failed, Sink};
 
 /// Puts the answer to a read of a root.
 fn put_root<K: Sink>(page: &mut Page, out: &mut K, root: NodeId, seen: u32)
-    ensures { Puts (K.held out.old) (K.held out.new) (K.faults out.old) (K.faults out.new) page.old page.new (reply_text (Reply.Root root seen)) }
+    ensures { Puts (K.held out.old) (K.held out.new) (K.faults out.old) (K.faults out.new) page.old page.new (text_of_reply (Reply.Root root seen)) }
 {
     page.put_id(out, b"{\"ok\":true,\"root\":", root);
     put_seen(page, out, b",\"seen\":", seen);
@@ -24,7 +24,7 @@ fn put_root<K: Sink>(page: &mut Page, out: &mut K, root: NodeId, seen: u32)
 
 /// Puts the answer to a read of a path.
 fn put_path<K: Sink>(page: &mut Page, out: &mut K, nodes: &PathIds, seen: u32)
-    ensures { Puts (K.held out.old) (K.held out.new) (K.faults out.old) (K.faults out.new) page.old page.new (reply_text (Reply.Path nodes.now seen)) }
+    ensures { Puts (K.held out.old) (K.held out.new) (K.faults out.old) (K.faults out.new) page.old page.new (text_of_reply (Reply.Path nodes.now seen)) }
 {
     page.put(out, b"{\"ok\":true,\"path\":");
     put_list(page, out, &nodes.nodes[..nodes.count as usize]);
@@ -33,7 +33,7 @@ fn put_path<K: Sink>(page: &mut Page, out: &mut K, nodes: &PathIds, seen: u32)
 
 /// Puts the answer to a read of leaves.
 fn put_leaves<K: Sink>(page: &mut Page, out: &mut K, leaves: &Ids, seen: u32)
-    ensures { Puts (K.held out.old) (K.held out.new) (K.faults out.old) (K.faults out.new) page.old page.new (reply_text (Reply.Leaves leaves.now seen)) }
+    ensures { Puts (K.held out.old) (K.held out.new) (K.faults out.old) (K.faults out.new) page.old page.new (text_of_reply (Reply.Leaves leaves.now seen)) }
 {
     page.put(out, b"{\"leaves\":");
     put_list(page, out, leaves.list.as_slice());
@@ -42,7 +42,7 @@ fn put_leaves<K: Sink>(page: &mut Page, out: &mut K, leaves: &Ids, seen: u32)
 
 /// Puts the answer to a read of changes.
 fn put_changes<K: Sink>(page: &mut Page, out: &mut K, ops: &Summaries, seen: u32)
-    ensures { Puts (K.held out.old) (K.held out.new) (K.faults out.old) (K.faults out.new) page.old page.new (reply_text (Reply.Changes ops.now seen)) }
+    ensures { Puts (K.held out.old) (K.held out.new) (K.faults out.old) (K.faults out.new) page.old page.new (text_of_reply (Reply.Changes ops.now seen)) }
 {
     page.put(out, b"{\"changes\":");
     put_list(page, out, ops.list.as_slice());
@@ -122,9 +122,9 @@ fn put_done<K: Sink>(
 }
 
 /// Puts the text of a reply.
-#[tactic(auto, unfolding(crate::specs::Texts::reply_text))]
+#[tactic(auto, unfolding(crate::specs::Texts::text_of_reply))]
 fn put_reply<K: Sink>(page: &mut Page, out: &mut K, reply: &Reply)
-    ensures { Puts (K.held out.old) (K.held out.new) (K.faults out.old) (K.faults out.new) page.old page.new (reply_text reply.now) }
+    ensures { Puts (K.held out.old) (K.held out.new) (K.faults out.old) (K.faults out.new) page.old page.new (text_of_reply reply.now) }
 {
     match reply {
         Reply::Root { root, seen } => put_root(page, out, *root, *seen),
@@ -151,8 +151,8 @@ fn put_reply<K: Sink>(page: &mut Page, out: &mut K, reply: &Reply)
 /// was written. It takes no memory.
 #[tactic(auto, using(crate::proofs::Whole::whole_ok, crate::proofs::Whole::whole_err, crate::proofs::Whole::whole_cause))]
 pub fn write_reply<K: Sink>(reply: &Reply, out: &mut K) -> Result<(), Failed>
-    ensures ok { OnOk result (Appends (K.held out.old) (K.held out.new) (reply_text reply.now)) }
-    ensures err { OnErr result (AppendsFront (K.held out.old) (K.held out.new) (reply_text reply.now)) }
+    ensures ok { OnOk result (Appends (K.held out.old) (K.held out.new) (text_of_reply reply.now)) }
+    ensures err { OnErr result (AppendsFront (K.held out.old) (K.held out.new) (text_of_reply reply.now)) }
     ensures cause { HasCause (K.faults out.old) (K.faults out.new) result }
 {
     let mut page = Page::new();

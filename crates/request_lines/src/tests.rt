@@ -263,17 +263,13 @@ fn a_failed_write_leaves_a_front(rt: HostRuntime) -> Result<(), AllocError> {
     Ok(())
 }
 
-fn asks_for_five(line: &[u8]) -> bool {
-    read_plain_line(line) == Some(NodeId(5))
-}
-
 #[test]
-fn plain_lines(rt: HostRuntime) {
-    let mut rest: &[u8] =
-        b"{\"do\":\"root\",\"sv\":\"5\"}\n{\"do\":\"root\",\"sv\":\"05\"}\n\n{\"do\":\"root\", \"sv\":\"5\"}";
-    for read in [true, false, false, false] {
-        let (line, more) = split_line(rest).unwrap_or((b"", b""));
-        assert_eq!(rt; asks_for_five(line), read);
+fn lines_of_a_stream(rt: HostRuntime) {
+    let mut rest: &[u8] = b"{}\n05\n\n {}";
+    let lines: [&[u8]; 4] = [b"{}", b"05", b"", b" {}"];
+    for wanted in lines {
+        let (line, more) = split_line(rest).unwrap_or((b"none", b""));
+        assert_eq!(rt; line, wanted);
         rest = more;
     }
     assert!(rt; split_line(rest).is_none());

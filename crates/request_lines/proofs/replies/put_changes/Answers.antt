@@ -1,10 +1,10 @@
 use Rattle.std.proofs.Common.{rules, ◌≡◌}
-use Rattle.request_lines.specs.Texts.{reply_text}
+use Rattle.request_lines.specs.Texts.{text_of_reply}
 use Rattle.request_lines.proofs.Putting.{puts_then}
 use Rattle.request_lines.proofs.replies.put_changes.Goals as goal
 
 pub returns : goal.returns
-unfolding reply_text
+unfolding text_of_reply
 returns g c =
     let e : c.args.ops.now ≡ c.as_slice.result.now = search rules in
     rw e (puts_then c.put.ensures (puts_then c.put_list.ensures c.put_seen.ensures))
