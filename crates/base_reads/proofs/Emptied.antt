@@ -1,6 +1,6 @@
 -- Which records don't count for nodes, and that emptying them leaves what is told of those.
-use Rattle.std.proofs.Common.{◌≡◌, ℕ, zero, suc, ◌+◌, ◌*◌, ◌-◌, ◌%◌, ◌^◌, ◌<◌, ◌≤◌, Bool, true, false, List, [], ◌∷◌, length, take, get_or, set, Some, refl, sym, ◌∙◌, ap, arith}
-use Rattle.std.specs.List.{AllByRecursion, slice_get}
+use Rattle.std.proofs.Common.{◌≡◌, ℕ, ◌+◌, ◌*◌, ◌-◌, ◌%◌, ◌^◌, ◌<◌, ◌≤◌, true, false, List, length, take, get_or, refl, sym, ◌∙◌, ap, arith}
+use Rattle.std.specs.List.{slice_get}
 use Rattle.std.proofs.lemmas.Option.{slice_get-get_or}
 use Rattle.op_model.specs.declared.Dataset.{Dataset}
 use Rattle.op_model.specs.declared.Base.{Base}
@@ -11,8 +11,7 @@ use Rattle.record_rows.specs.LogRows.{rows_of}
 use Rattle.record_rows.specs.Words.{fixed_words, layout_word, kind_code, names, words_of}
 use Rattle.record_rows.specs.Readings.{Holds, ParentImage}
 use Rattle.record_rows.proofs.ImageFacts.{few, told_fixed}
-use Rattle.record_rows.proofs.TellLemmas.{length-told, length-words_of, same_length}
-use Rattle.record_rows.proofs.ToldLaws.{other_stores}
+use Rattle.record_rows.proofs.TellLemmas.{length-words_of, same_length}
 use Rattle.base_reads.specs.Emptied.{IsUntold}
 
 module _ (d : Dataset) (b : Base) (log : List Entry) (words : List ℕ) (i : ParentImage d b log words) where
@@ -49,22 +48,3 @@ module _ (d : Dataset) (b : Base) (log : List Entry) (words : List ℕ) (i : Par
   edge_untold p (EntryRow e) h k =
       let w : get_or words (8 * p) 0 ≡ 9 + kind_code e.asked * 2 ^ 8 + names e.asked * 2 ^ 32 = first p (EntryRow e) h refl in
       absurd (omega arith)
-
-  -- with 0 for a word of a record that isn't told, the words tell of the same nodes
-  pub word_cleared : (p k : ℕ) (row : Row) → Holds d b log p row → IsUntold row → k < 8 → ParentImage d b log (set words (8 * p + k) 0)
-  word_cleared p k row h u l = record {
-    dataset = i.dataset;
-    base = i.base;
-    legal = i.legal;
-    numbers = i.numbers;
-    fits = i.fits;
-    parents = other_stores d b words log p k 0 row i.parents h l (untold row k u l);
-  }
-    where
-      false_at : (ts : List Bool) → AllByRecursion (λ t. t ≡ false) ts → (n : ℕ) → n < length ts → slice_get ts n ≡ Some false
-      false_at [] a n m = absurd (omega arith)
-      false_at (t ∷ ts) a zero m = ap (λ x. Some x) a.0
-      false_at (t ∷ ts) a (suc n) m = false_at ts a.1 n (omega arith)
-
-      untold : (row : Row) (k : ℕ) → IsUntold row → k < 8 → slice_get (told row) k ≡ Some false
-      untold row k u l = let n = length-told row in false_at (told row) u k (omega (arith, n))

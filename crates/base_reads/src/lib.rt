@@ -19,7 +19,7 @@
 //! they are owed from the nodes and their links alone. Each reply is also asked to have seen one
 //! entry. A failure names the base and the first subject that differs.
 //!
-//! - `dice`, `datasets`, `tables`: what is drawn
+//! - `datasets`, `tables`: what is drawn
 //! - `wanted`: what the plain program finds
 //! - `reads`, `replies`: one read, and whether its reply is what is wanted
 //! - `checks`: all reads of a subject
@@ -31,8 +31,6 @@
 mod checks;
 #[cfg(test)]
 mod datasets;
-#[cfg(test)]
-mod dice;
 #[cfg(test)]
 mod emptying;
 #[cfg(test)]

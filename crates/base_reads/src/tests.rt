@@ -9,7 +9,6 @@ use crate::checks::{
     refuses_others, refuses_times,
 };
 use crate::datasets::dataset_of;
-use crate::dice::Dice;
 use crate::emptying::empty_edges;
 use crate::reads::{has_leaves, has_path, has_root};
 use crate::tables::{Tables, drawn_tables};
@@ -19,6 +18,8 @@ use node_ids::NodeId;
 use op_model::{Dataset, PathIds};
 use pcg_base::{NoMemory, VecWords, Words};
 use plain_hierarchy::{first_entry, record_count};
+use rand_core::SeedableRng;
+use rand_xoshiro::Xoshiro256PlusPlus;
 use row_samples::{P, Q, R, S};
 use std::alloc::Global;
 use std::test::Fail;
@@ -110,12 +111,12 @@ fn differs(alloc: Global, dataset: &Dataset, tables: &Tables) -> Result<Option<S
 #[test]
 fn drawn_bases_agree(rt: HostRuntime) -> Result<(), Fail> {
     let alloc = rt.alloc();
-    let mut dice = Dice::new(88172645463325252);
+    let mut numbers = Xoshiro256PlusPlus::seed_from_u64(1);
     for number in 0..260usize {
         let Some(dataset) = dataset_of(number) else {
             panic!(rt; "no dataset {number}");
         };
-        let tables = drawn_tables(alloc, &mut dice, &dataset)?;
+        let tables = drawn_tables(alloc, &mut numbers, &dataset)?;
         assert_eq!(rt; differs(alloc, &dataset, &tables)?, None, "base {number}");
     }
     Ok(())

@@ -50,9 +50,6 @@ module _ (d : Dataset) (b : Base) (valid : IsDataset d) (base : IsBase d b) wher
   pub chunks_once : IsOnce (chunks d b)
   chunks_once = ascending_once (chunks d b) (differ_ascends (chunks d b) (chunks_ascend d b valid base))
 
-  pub supervoxels_once : IsOnce b.supervoxels
-  supervoxels_once = ascending_once b.supervoxels base.ascending
-
   few_below : 0 + length (chunks d b) ≤ 2 ^ 62
   unfolding chunks layer_chunks layers
   few_below =

@@ -42,9 +42,6 @@ supervoxels_differ : (d : Dataset) (b : Base) → IsBase d b → Differ Other b.
 supervoxels_differ d b base =
     differ_more (λ i. Unit {0}) (λ i j. i < j) Other b.supervoxels (λ i j p q l e. omega arith) (all_each (λ i. Unit {0}) b.supervoxels (λ i. tt)) (ascending_differ b.supervoxels base.ascending)
 
-pub supervoxels_once : (d : Dataset) (b : Base) → IsBase d b → IsOnce b.supervoxels
-supervoxels_once d b base = once b.supervoxels (supervoxels_differ d b base)
-
 module _ (d : Dataset) (b : Base) (valid : IsDataset d) (base : IsBase d b) (now : ℕ) (fit : LabelsFit d b (ingested d b now)) where
   -- the time of the entry is not in its nodes
   legal : Legal d b (ingested d b 0)

@@ -1,8 +1,7 @@
--- How many nodes each layer has, and how many chunks hold a supervoxel.
-use Rattle.std.proofs.Common.{◌≡◌, ℕ, zero, suc, ◌+◌, ◌-◌, ◌*◌, ◌^◌, ◌<◌, ◌≤◌, true, ◌&&◌, eqb, List, [], ◌∷◌, length, map, get_or, Some, refl, sym, ◌∙◌, ap, inl, inr, arith}
-use Rattle.std.specs.List.{AllByRecursion, flat_map, slice_get}
+-- How many nodes each layer has, and how many records a base.
+use Rattle.std.proofs.Common.{◌≡◌, ℕ, zero, suc, ◌+◌, ◌-◌, ◌*◌, ◌^◌, ◌<◌, ◌≤◌, true, ◌&&◌, eqb, List, [], ◌∷◌, length, map, get_or, Some, refl, sym, ◌∙◌, ap, arith}
+use Rattle.std.specs.List.{flat_map, slice_get}
 use Rattle.std.specs.Prelude.{sum_by}
-use Rattle.std.proofs.lemmas.Bool.{false≢true}
 use Rattle.std.proofs.lemmas.List.{length-map}
 use Rattle.std.proofs.lemmas.List.Sums.{sum_by-cons}
 use Rattle.std.proofs.lemmas.Option.{slice_get-get_or}
@@ -10,21 +9,17 @@ use Rattle.chunk_geometry.proofs.LayerLemmas.{top_low}
 use Rattle.op_model.specs.declared.Dataset.{Dataset}
 use Rattle.op_model.specs.declared.Base.{Base}
 use Rattle.graph_model.specs.Lists.{has}
-use Rattle.graph_model.proofs.ListLemmas.{filter_length, has_head, has_tail}
+use Rattle.graph_model.proofs.ListLemmas.{filter_length}
 use Rattle.op_model.specs.Chunks.{chunk, layers, layers_from, members, top}
 use Rattle.op_model.specs.Labels.{least, is_new, new_among}
 use Rattle.op_model.specs.Operations.{ascending}
-use Rattle.op_model.specs.Records.{total, nodes_in, node_count, records}
-use Rattle.op_model.specs.Valid.{IsDataset}
+use Rattle.op_model.specs.Records.{total, chunk_count, nodes_in, node_count, records}
 use Rattle.op_model.proofs.LegalLemmas.{ascending_has, map_has}
-use Rattle.op_model.proofs.LinkLemmas.{append_cases}
 use Rattle.record_rows.specs.LogRows.{chunks, layer_chunks, layer_nodes, new_node}
-use Rattle.record_rows.proofs.BaseCounts.{flat_has}
-use Rattle.record_rows.proofs.DifferLemmas.{Differ, all_each, all_map, all_more, differ_flat, differ_more}
-use Rattle.record_rows.proofs.LayerIds.{same_layer}
-use Rattle.record_rows.proofs.LinkLemmas.{all_ascending}
-use Rattle.record_rows.proofs.OnceLemmas.{all_has_self, all_pairs, ascending_lists, layers_low, layers_differ}
-use Rattle.record_rows.proofs.SumLemmas.{different_length, length-flat, of_ascending, parted, sorted_same, total_ones, total_same}
+use Rattle.record_rows.proofs.BaseCounts.{chunks_length}
+use Rattle.record_rows.proofs.DifferLemmas.{all_each, all_more}
+use Rattle.record_rows.proofs.OnceLemmas.{all_has_self, ascending_lists}
+use Rattle.record_rows.proofs.SumLemmas.{length-flat, parted, total_ones, total_same}
 use Rattle.plain_hierarchy.specs.Ingest.{ingested}
 use Rattle.plain_hierarchy.proofs.Counts.{records_ingested, sum_told}
 use Rattle.plain_hierarchy.proofs.Ingests.{new_firsts}
@@ -38,44 +33,6 @@ use Rattle.hierarchy_build.proofs.AllLinks.{layer_at, nodes_first}
 pub nodes_summed : (b : Base) (ls : List Layer) → sum_by (λ l. length l.made.items) ls ≡ length (all_nodes b ls)
 nodes_summed b [] = refl
 nodes_summed b (l ∷ ls) = sum_by-cons (λ (l : Layer). length l.made.items) l ls ∙ (ap (λ n. length l.made.items + n) (nodes_summed b ls) ∙ sym (nodes_first b l ls))
-
-flat_from : (f : ℕ → List ℕ) (ls : List ℕ) (i : ℕ) → has (flat_map f ls) i ≡ true → (l : ℕ) × (has ls l ≡ true) × (has (f l) i ≡ true)
-flat_from f [] i h = absurd (false≢true h)
-flat_from f (k ∷ ls) i h = elim (append_cases (f k) (flat_map f ls) i h) [
-  | inl e ↦ (k, has_head k ls, e)
-  | inr r ↦ let s = flat_from f ls i r in (s.0, has_tail k ls s.0 s.1, s.2)
-]
-
-module _ (d : Dataset) (b : Base) (valid : IsDataset d) where
-  in_layer : (l : ℕ) → AllByRecursion (λ i. (v : ℕ) × (i ≡ chunk d l v)) (layer_chunks d b l)
-  unfolding layer_chunks
-  in_layer l =
-      all_ascending (λ i. (v : ℕ) × (i ≡ chunk d l v)) (map (chunk d l) b.supervoxels)
-      (all_map (chunk d l) (λ i. (v : ℕ) × (i ≡ chunk d l v)) b.supervoxels (all_each (λ w. (v : ℕ) × (chunk d l w ≡ chunk d l v)) b.supervoxels (λ w. (w, refl))))
-
-  pub chunks_differ : Differ (λ i j. i ≡ j → ⊥) (chunks d b)
-  unfolding chunks layer_chunks
-  chunks_differ =
-      differ_flat (layer_chunks d b) (λ l. (has (layers d) l ≡ true) × (l < 2 ^ 8)) (λ l k. l < k) (λ i j. i ≡ j → ⊥) (layers d)
-      (λ l p. differ_more (λ i. Unit {0}) (λ i j. i < j) (λ i j. i ≡ j → ⊥) (layer_chunks d b l) (λ i j p q lt e. omega arith) (all_each (λ i. Unit {0}) (layer_chunks d b l) (λ i. tt))
-      (ascending_lists (map (chunk d l) b.supervoxels)))
-      (λ l k p q lt. all_pairs (λ i. (v : ℕ) × (i ≡ chunk d l v)) (λ i. (v : ℕ) × (i ≡ chunk d k v)) (λ i j. i ≡ j → ⊥) (layer_chunks d b l) (layer_chunks d b k)
-      (λ i j x y e. let z : l ≡ k = same_layer d valid.layout l k x.0 y.0 p.1 q.1 (sym x.1 ∙ (e ∙ y.1)) in omega arith) (in_layer l) (in_layer k))
-      (layers_low d) (layers_differ d)
-
-  -- no chunk is of two layers
-  pub chunks_counted : length (chunks d b) ≡ length (ascending (flat_map (λ l. map (chunk d l) b.supervoxels) (layers d)))
-  unfolding chunks layer_chunks
-  chunks_counted =
-      let all : List ℕ = flat_map (λ l. map (chunk d l) b.supervoxels) (layers d) in
-      let own : List ℕ = flat_map (λ l. ascending (map (chunk d l) b.supervoxels)) (layers d) in
-      let there : (i : ℕ) → has (ascending own) i ≡ true → has (ascending all) i ≡ true =
-      λ i h. let s = flat_from (λ l. ascending (map (chunk d l) b.supervoxels)) (layers d) i (of_ascending own i h) in
-      ascending_has all i (flat_has (λ l. map (chunk d l) b.supervoxels) (layers d) s.0 i s.1 (of_ascending (map (chunk d s.0) b.supervoxels) i s.2)) in
-      let back : (i : ℕ) → has (ascending all) i ≡ true → has (ascending own) i ≡ true =
-      λ i h. let s = flat_from (λ l. map (chunk d l) b.supervoxels) (layers d) i (of_ascending all i h) in
-      ascending_has own i (flat_has (λ l. ascending (map (chunk d l) b.supervoxels)) (layers d) s.0 i s.1 (ascending_has (map (chunk d s.0) b.supervoxels) i s.2)) in
-      sym (different_length own chunks_differ) ∙ ap length (sorted_same (ascending own) (ascending all) (ascending_lists own) (ascending_lists all) there back)
 
 module _ (d : Dataset) (b : Base) (now : ℕ) where
   -- the least supervoxels of a layer's nodes, chunk by chunk
@@ -133,7 +90,7 @@ some_layer (x ∷ ls) l = x
 pub records_told : (d : Dataset) (b : Base) (ls : List Layer) (now supervoxels held edges nodes roots : ℕ) → AreBuilt d b ls → supervoxels ≡ length b.supervoxels → held ≡ length (chunks d b) → edges ≡ length b.edges
     → nodes ≡ sum_by (λ l. length l.made.items) ls → ((l : Layer) → slice_get ls (length ls - 1) ≡ Some l → roots ≡ length l.made.items)
     → 1 + supervoxels + held + edges + nodes + (supervoxels + nodes - roots) + 1 ≡ records d b (ingested d b now)
-unfolding node_count layers top
+unfolding node_count layers top chunk_count
 records_told d b ls now supervoxels held edges nodes roots built s h e n r =
     let c = built.count in
     let two : 2 ≤ top d = top_low d.grid in
@@ -144,7 +101,7 @@ records_told d b ls now supervoxels held edges nodes roots built s h e n r =
     let ends : roots ≡ nodes_in d b (ingested d b 0) (top d) =
     r l (slice_get-get_or ls last none (omega (arith, c, two))) ∙ (made_count d b now (2 + last) l (layer_at d b now 2 ls last none (built.layers now) (omega (arith, c, two))) ∙ ap (nodes_in d b (ingested d b 0)) high) in
     sum_told supervoxels held edges nodes roots (length b.supervoxels) (length (ascending (flat_map (λ layer. map (chunk d layer) b.supervoxels) (layers d)))) (length b.edges) (node_count d b (ingested d b 0)) (nodes_in d b (ingested d b 0) (top d))
-    s (h ∙ chunks_counted d b built.dataset) e all ends
+    s (h ∙ chunks_length d b built.dataset built.base) e all ends
     ∙ records_ingested d b now
   where
     none : Layer

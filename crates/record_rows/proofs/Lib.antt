@@ -5,6 +5,7 @@ pub mod TellLemmas
 pub mod StoreLaw
 pub mod HeaderLemmas
 pub mod ToldLaws
+pub mod Untold
 pub mod LayerIds
 pub mod Listings
 pub mod DifferLemmas

@@ -1,13 +1,12 @@
 -- What the tests of replies know of the words that they read.
-use Rattle.std.proofs.Common.{◌≡◌, ℕ, zero, suc, ◌+◌, ◌*◌, ◌<◌, Bool, true, false, List, [], ◌∷◌, length, set, Some, refl, sym, ap, subst, arith}
-use Rattle.std.specs.List.{AllByRecursion, slice_get}
+use Rattle.std.proofs.Common.{◌≡◌, ℕ, ◌+◌, ◌*◌, ◌<◌, true, false, List, set, refl, sym, subst}
 use Rattle.op_model.specs.declared.Dataset.{Dataset}
 use Rattle.op_model.specs.declared.Base.{Base}
 use Rattle.op_model.specs.declared.Edge.{Edge}
 use Rattle.op_model.specs.declared.Entry.{Entry}
 use Rattle.record_rows.specs.Images.{told}
 use Rattle.record_rows.specs.Rows.{EdgeRow}
-use Rattle.record_rows.proofs.ToldLaws.{other_stores}
+use Rattle.record_rows.proofs.Untold.{word_cleared}
 use Rattle.op_model.specs.Samples.{base, data_a, ingested, merged, halved, edge, p, q, r, s}
 use Rattle.op_model.proofs.Opened.{definitions}
 use Rattle.record_rows.specs.Readings.{ParentImage, HoldsEdge}
@@ -49,19 +48,7 @@ edge_10 = refl
 pub edge_cleared : (d : Dataset) (b : Base) (log : List Entry) (words : List ℕ) (place k made : ℕ) (e : Edge) → ParentImage d b log words → HoldsEdge d b log place made e → k < 8
     → ParentImage d b log (set words (8 * place + k) 0)
 unfolding told
-edge_cleared d b log words place k made e i h l = record {
-  dataset = i.dataset;
-  base = i.base;
-  legal = i.legal;
-  numbers = i.numbers;
-  fits = i.fits;
-  parents = other_stores d b words log place k 0 (EdgeRow made e) i.parents h l (untold (told (EdgeRow made e)) (refl, (refl, (refl, (refl, (refl, (refl, (refl, (refl, tt)))))))) k l);
-}
-  where
-    untold : (ts : List Bool) → AllByRecursion (λ t. t ≡ false) ts → (n : ℕ) → n < length ts → slice_get ts n ≡ Some false
-    untold [] a n m = absurd (omega arith)
-    untold (t ∷ ts) a zero m = ap (λ x. Some x) a.0
-    untold (t ∷ ts) a (suc n) m = untold ts a.1 n (omega arith)
+edge_cleared d b log words place k made e i h l = word_cleared d b log words place k (EdgeRow made e) i h (refl, (refl, (refl, (refl, (refl, (refl, (refl, (refl, tt)))))))) l
 
 -- where an edge of the ingest stands
 pub has_edge : (words : List ℕ) (place : ℕ) (e : Edge) → ParentImage data_a base ingested words → HoldsEdge data_a base ingested place 0 e → HasEdge words place

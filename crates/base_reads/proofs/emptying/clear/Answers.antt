@@ -1,7 +1,7 @@
 use Rattle.std.proofs.Common.{◌<◌, [], ◌∷◌, sym, refl, subst, ◌∙◌, ap, length, length-set, arith}
 use Rattle.record_rows.specs.Readings.{ParentImage}
 use Rattle.record_rows.proofs.ImageFacts.{within}
-use Rattle.base_reads.proofs.Emptied.{word_cleared}
+use Rattle.record_rows.proofs.Untold.{word_cleared}
 use Rattle.base_reads.proofs.emptying.clear.Goals as goal
 
 pub loop-k-init : goal.loop-k-init
@@ -18,6 +18,6 @@ set-requires c =
 pub loop-k-preserved : goal.loop-k-preserved
 loop-k-preserved c = (
   λ d b e row i h u. subst (λ s. ParentImage d b (e ∷ []) s.words) (sym c.set.ensures)
-      (word_cleared d b (e ∷ []) _ (c.loop-k.invariant.0 d b e row i h u) c.args.place c.loop-k.k row h u c.loop-k-test.true),
+      (word_cleared d b (e ∷ []) _ c.args.place c.loop-k.k row (c.loop-k.invariant.0 d b e row i h u) h u c.loop-k-test.true),
   ap (λ s. length s.words) c.set.ensures ∙ (length-set _ _ _ ∙ c.loop-k.invariant.1),
 )
