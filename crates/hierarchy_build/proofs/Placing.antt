@@ -10,7 +10,6 @@ use Rattle.chunk_geometry.specs.declared.Cell.{Cell}
 use Rattle.chunk_geometry.specs.Levels.{level as level_of}
 use Rattle.op_model.specs.declared.Dataset.{Dataset}
 use Rattle.op_model.specs.declared.Base.{Base}
-use Rattle.op_model.specs.declared.Edge.{Edge}
 use Rattle.op_model.specs.Chunks.{cell}
 use Rattle.layer_laws.specs.Levels.{level}
 use Rattle.hierarchy_build.specs.declared.levels.PlacedEdge.{PlacedEdge}
@@ -19,6 +18,8 @@ use Rattle.graph_model.proofs.ListLemmas.{contra, has_cases, has_none}
 use Rattle.op_model.specs.Valid.{IsAscending}
 use Rattle.layer_laws.proofs.PlaceLemmas.{at_strict, at_order, at_one}
 use Rattle.layer_laws.proofs.OrderLemmas.{get_has}
+use Rattle.base_rows.specs.declared.lists.BaseEdge.{BaseEdge}
+use Rattle.base_rows.specs.Lists.{IsPlaced}
 use Rattle.hierarchy_build.specs.Places.{place_of, placed}
 
 pub place_at : (xs : List ℕ) (v : ℕ) → has xs v ≡ true → (place_of xs v < length xs) × (get_or xs (place_of xs v) 0 ≡ v)
@@ -115,12 +116,23 @@ module _ {X : Type 0} (n : X → ℕ) (lv : ℕ) (xs : List X) (rising : IsNonDe
       (λ i d l m. ne_eqb _ _ (λ e. let r = leb-false _ _ (q.1 i d l m) in omega arith))
 
 -- an edge by the places of its ends, from what the calls answered
-pub placed_is : (d : Dataset) (b : Base) (e : Edge) (ids : List ℕ) (l g lv : ℕ) (p q : Cell) → ids ≡ b.supervoxels → l ≡ place_of ids e.pair.a → g ≡ place_of ids e.pair.b
-    → lv ≡ level_of p q → p ≡ cell d e.pair.a → q ≡ cell d e.pair.b
-    → (let r : PlacedEdge = record { lesser = l; greater = g; level = lv; active = e.active } in r) ≡ placed d b e
+-- a place where an id stands is its place
+pub stands_at : (xs : List ℕ) (v i : ℕ) → IsAscending xs → i < length xs → get_or xs i 0 ≡ v → i ≡ place_of xs v
+stands_at xs v i a l e = sym (place_is xs i a l) ∙ ap (place_of xs) e
+
+-- the edge whose ends stand at their places, with the level of its ends' chunks
+pub placed_is : (d : Dataset) (b : Base) (x : BaseEdge) (lv : ℕ) (p q : Cell) → IsAscending b.supervoxels → IsPlaced b.supervoxels x → lv ≡ level_of p q → p ≡ cell d x.edge.pair.a → q ≡ cell d x.edge.pair.b
+    → (let r : PlacedEdge = record { lesser = x.lesser; greater = x.greater; level = lv; active = x.edge.active } in r) ≡ placed d b x.edge
 unfolding level
-placed_is d b e ids l g lv p q i x y z u v =
-    let xl : l ≡ place_of b.supervoxels e.pair.a = x ∙ ap (λ ns. place_of ns e.pair.a) i in
-    let yg : g ≡ place_of b.supervoxels e.pair.b = y ∙ ap (λ ns. place_of ns e.pair.b) i in
-    let zl : lv ≡ level_of (cell d e.pair.a) (cell d e.pair.b) = z ∙ (ap (λ c. level_of c q) u ∙ ap (λ c. level_of (cell d e.pair.a) c) v) in
-    λ k. record { lesser = xl k; greater = yg k; level = zl k; active = e.active }
+placed_is d b x lv p q rises h z u v =
+    let xl : x.lesser ≡ place_of b.supervoxels x.edge.pair.a = stands_at b.supervoxels x.edge.pair.a x.lesser rises h.lesser h.lesser_is in
+    let yg : x.greater ≡ place_of b.supervoxels x.edge.pair.b = stands_at b.supervoxels x.edge.pair.b x.greater rises h.greater h.greater_is in
+    let zl : lv ≡ level_of (cell d x.edge.pair.a) (cell d x.edge.pair.b) = z ∙ (ap (λ c. level_of c q) u ∙ ap (λ c. level_of (cell d x.edge.pair.a) c) v) in
+    λ k. record { lesser = xl k; greater = yg k; level = zl k; active = x.edge.active }
+
+-- the end of an edge in its place is a supervoxel
+pub lesser_known : (ids : List ℕ) (x : BaseEdge) → IsPlaced ids x → has ids x.edge.pair.a ≡ true
+lesser_known ids x h = subst (λ v. has ids v ≡ true) h.lesser_is (get_has ids x.lesser h.lesser)
+
+pub greater_known : (ids : List ℕ) (x : BaseEdge) → IsPlaced ids x → has ids x.edge.pair.b ≡ true
+greater_known ids x h = subst (λ v. has ids v ≡ true) h.greater_is (get_has ids x.greater h.greater)

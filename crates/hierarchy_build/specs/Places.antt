@@ -1,9 +1,12 @@
 -- Places of supervoxels in the base's ascending list, and edges between places.
-use Rattle.std.specs.Prelude.{ℕ, ◌+◌, ◌==◌, if◌then◌else◌, List, [], ◌∷◌}
+use Rattle.std.specs.Prelude.{◌≡◌, ℕ, ◌+◌, ◌==◌, if◌then◌else◌, List, [], ◌∷◌, map}
+use Rattle.std.specs.List.{All}
 use Rattle.op_model.specs.declared.Dataset.{Dataset}
 use Rattle.op_model.specs.declared.Base.{Base}
 use Rattle.op_model.specs.declared.Edge.{Edge}
 use Rattle.layer_laws.specs.Levels.{level}
+use Rattle.base_rows.specs.declared.lists.BaseEdge.{BaseEdge}
+use Rattle.base_rows.specs.Lists.{IsPlaced}
 use Rattle.hierarchy_build.specs.declared.levels.PlacedEdge.{PlacedEdge}
 
 -- where an id first stands in a list, counted from 0
@@ -19,3 +22,8 @@ placed d b e = record {
   level = level d e.pair.a e.pair.b;
   active = e.active;
 }
+
+-- these are the edges of the base, in its order, with the places of their ends
+pub record ArePlaces (b : Base) (xs : List BaseEdge) : Type 0 where
+  pub edges : map (λ x. x.edge) xs ≡ b.edges
+  pub placed : All (IsPlaced b.supervoxels) xs

@@ -9,17 +9,18 @@ ghost use Rattle.record_rows.specs.Readings.{Image};
 ghost use Rattle.plain_hierarchy.specs.Ingest.{ingested};
 ghost use Rattle.hierarchy_build.specs.Layers.{all_nodes};
 ghost use Rattle.hierarchy_build.specs.Links.{AreBuilt};
+ghost use Rattle.hierarchy_build.specs.Places.{ArePlaces};
 ghost use Rattle.hierarchy_build.specs.Built.{AreLists, IsFull, IsRefused, Tells};
 ghost use Rattle.hierarchy_build.specs.declared.errors.BuildError.{BuildError as TheBuildError};
 
 use crate::chunking::{base_chunks, base_nodes, chunk_count};
 use crate::counting::records_of;
-use crate::edging::base_edges;
+use crate::edging::{base_edges, edge_places};
 use crate::errors::{BuildError, LayersError};
 use crate::layers::{Layer, build_layers};
 use crate::linking::base_links;
 use crate::lists::ids_of;
-use base_rows::{BaseLists, base_words};
+use base_rows::{BaseEdge, BaseLists, base_words};
 use op_model::{Base, Dataset};
 use pcg_base::{NoMemory, VecWords};
 use std::alloc::Global;
@@ -33,14 +34,16 @@ fn lists_of(
     dataset: &Dataset,
     base: &Base,
     layers: &[Layer],
+    ends: Vec<BaseEdge>,
 ) -> Result<BaseLists, NoMemory>
     requires built { AreBuilt dataset.now base.now layers.now }
+    requires places { ArePlaces base.now ends.items }
     requires few { length base.now.supervoxels + length (all_nodes base.now layers.now) < 2 ^ 32 }
     ensures { IfOk result (λ x. AreLists dataset.now base.now layers.now x) }
 {
     Ok(BaseLists {
         chunks: base_chunks(alloc, dataset, base, layers)?,
-        edges: base_edges(alloc, dataset, base)?,
+        edges: base_edges(dataset, base, ends),
         nodes: base_nodes(alloc, dataset, base, layers)?,
         links: base_links(alloc, base, layers)?,
     })
@@ -89,7 +92,10 @@ pub fn build(
     if ids_of(base).len() > u32::MAX as usize {
         return Err(BuildError::NoMemory);
     }
-    let layers = match build_layers(alloc, dataset, base) {
+    let Ok(ends) = edge_places(alloc, dataset, base) else {
+        return Err(BuildError::NoMemory);
+    };
+    let layers = match build_layers(alloc, dataset, base, &ends) {
         Ok(layers) => layers,
         Err(error) => return Err(error_of(dataset, error)),
     };
@@ -100,7 +106,7 @@ pub fn build(
             given: dataset.capacity,
         });
     }
-    match words_of(alloc, dataset, base, &layers, now.min(LATEST)) {
+    match words_of(alloc, dataset, base, &layers, ends, now.min(LATEST)) {
         Ok(words) => Ok(words),
         Err(_) => Err(BuildError::NoMemory),
     }
@@ -112,9 +118,11 @@ fn words_of(
     dataset: &Dataset,
     base: &Base,
     layers: &[Layer],
+    ends: Vec<BaseEdge>,
     at: u64,
 ) -> Result<VecWords, NoMemory>
     requires built { AreBuilt dataset.now base.now layers.now }
+    requires places { ArePlaces base.now ends.items }
     requires fit { (now : ℕ) → LabelsFit dataset.now base.now (ingested dataset.now base.now now) }
     requires few { length base.now.supervoxels + length (all_nodes base.now layers.now) < 2 ^ 32 }
     requires fits { (now : ℕ) → records dataset.now base.now (ingested dataset.now base.now now) ≤ dataset.now.capacity }
@@ -122,6 +130,6 @@ fn words_of(
     ensures image { IfOk result (λ w. Image dataset.now base.now (ingested dataset.now base.now at) w.words) }
     ensures room { IfOk result (λ w. 8 * dataset.now.capacity ≤ length w.words + w.spare) }
 {
-    let lists = lists_of(alloc, dataset, base, layers)?;
+    let lists = lists_of(alloc, dataset, base, layers, ends)?;
     base_words(alloc, dataset, ids_of(base), &lists, at)
 }

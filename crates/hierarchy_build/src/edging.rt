@@ -5,7 +5,8 @@ ghost use Rattle.std.specs.List.{All};
 ghost use Rattle.base_rows.specs.Lists.{IsPlaced};
 ghost use Rattle.op_model.specs.Edges.{put_edges};
 ghost use Rattle.op_model.specs.Labels.{edges};
-ghost use Rattle.op_model.specs.Valid.{IsAscending, IsBase, IsDataset, IsEdge, PairsDiffer};
+ghost use Rattle.op_model.specs.Valid.{IsAscending, IsBase, IsEdge, PairsDiffer};
+ghost use Rattle.hierarchy_build.specs.Places.{ArePlaces};
 
 use crate::lists::{edges_of, ids_of};
 use crate::places::place_of;
@@ -30,13 +31,18 @@ fn base_edge(ids: &[NodeId], edge: &Edge) -> BaseEdge
     }
 }
 
-// the edges of a base in its order, with the places of their ends
-fn in_order(alloc: Global, dataset: &Dataset, base: &Base) -> Result<Vec<BaseEdge>, NoMemory>
+/// The edges of a base, in its order, with the places of their ends in the base's list of supervoxels, of
+/// which there are fewer than 2^32. Each end is found by halving.
+///
+/// # Errors
+///
+/// `NoMemory` where there is none for the list.
+pub fn edge_places(alloc: Global, dataset: &Dataset, base: &Base) -> Result<Vec<BaseEdge>, NoMemory>
     requires base { IsBase dataset.now base.now }
     requires size { length base.now.supervoxels < 2 ^ 32 }
-    ensures edges { IfOk result (λ v. map (λ x. x.edge) v.items ≡ base.now.edges) }
-    ensures placed { IfOk result (λ v. All (IsPlaced base.now.supervoxels) v.items) }
+    ensures { IfOk result (λ v. ArePlaces base.now v.items) }
 {
+    let _ = dataset;
     let ids = ids_of(base);
     let mut list = Vec::new(alloc);
     for edge in edges_of(base) {
@@ -58,19 +64,15 @@ fn by_pair(edges: Vec<BaseEdge>) -> Vec<BaseEdge>
     list
 }
 
-/// The edges of a base ascending by pairs, the lesser end first: the order of their records. Each has the
-/// places of its ends in the base's list of supervoxels, of which there are fewer than 2^32. Time is n log n
-/// in the edges, with a search by halving for each end.
-///
-/// # Errors
-///
-/// `NoMemory` where there is none for the list.
-pub fn base_edges(alloc: Global, dataset: &Dataset, base: &Base) -> Result<Vec<BaseEdge>, NoMemory>
-    requires dataset { IsDataset dataset.now }
+/// The edges of a base ascending by pairs, the lesser end first: the order of their records. Each keeps the
+/// places of its ends. No memory is taken; time is n log n in the edges.
+pub fn base_edges(dataset: &Dataset, base: &Base, ends: Vec<BaseEdge>) -> Vec<BaseEdge>
     requires base { IsBase dataset.now base.now }
-    requires size { length base.now.supervoxels < 2 ^ 32 }
-    ensures edges { IfOk result (λ v. map (λ x. x.edge) v.items ≡ edges dataset.now base.now []) }
-    ensures placed { IfOk result (λ v. All (IsPlaced base.now.supervoxels) v.items) }
+    requires places { ArePlaces base.now ends.items }
+    ensures edges { map (λ x. x.edge) result.items ≡ edges dataset.now base.now [] }
+    ensures placed { All (IsPlaced base.now.supervoxels) result.items }
 {
-    Ok(by_pair(in_order(alloc, dataset, base)?))
+    let _ = dataset;
+    let _ = base;
+    by_pair(ends)
 }

@@ -10,6 +10,7 @@ ghost use Rattle.record_rows.specs.LogRows.{new_nodes};
 ghost use Rattle.plain_hierarchy.specs.Ingest.{ingested};
 ghost use Rattle.layer_laws.specs.Building.{AreLeastLeaves};
 ghost use Rattle.hierarchy_build.specs.Pairs.{AreEdges};
+ghost use Rattle.hierarchy_build.specs.Places.{ArePlaces};
 ghost use Rattle.hierarchy_build.specs.Numbers.{LabelsFitIn, OfSpent, spent_in};
 ghost use Rattle.hierarchy_build.specs.Layers.{all_nodes, AreLayers, IsFirstSpent, IsLayer, last_firsts};
 
@@ -18,6 +19,7 @@ use crate::levels::{PlacedEdge, by_level, placed_edges};
 use crate::lists::ids_of;
 use crate::numbering::{Made, made_nodes};
 use crate::rising::rise;
+use base_rows::BaseEdge;
 use op_model::{Base, Dataset};
 use pcg_base::NoMemory;
 use std::alloc::Global;
@@ -119,8 +121,8 @@ fn layers_over(
     Ok(layers)
 }
 
-/// The layers of a base's octree at its first entry, from layer 2 to the top. The base has fewer than
-/// 2^32 supervoxels.
+/// The layers of a base's octree at its first entry, from layer 2 to the top, from its edges with the
+/// places of their `ends`. The base has fewer than 2^32 supervoxels.
 ///
 /// The nodes of a layer are the components of those below by the active edges whose ends first come
 /// into one chunk in it (Dorkenwald et al. 2022). Each edge is looked at in its own layer alone; time
@@ -134,10 +136,12 @@ pub fn build_layers(
     alloc: Global,
     dataset: &Dataset,
     base: &Base,
+    ends: &[BaseEdge],
 ) -> Result<Vec<Layer>, LayersError>
     requires dataset { IsDataset dataset.now }
     requires base { IsBase dataset.now base.now }
     requires size { length base.now.supervoxels < 2 ^ 32 }
+    requires places { ArePlaces base.now ends.now }
     ensures layers { IfOk result (λ v. (now : ℕ) → AreLayers dataset.now base.now (ingested dataset.now base.now now) 2 v.items) }
     ensures count { IfOk result (λ v. length v.items ≡ top dataset.now - 1) }
     ensures nodes { IfOk result (λ v. (now : ℕ) → all_nodes base.now v.items ≡ new_nodes dataset.now base.now (ingested dataset.now base.now now) 0) }
@@ -145,7 +149,7 @@ pub fn build_layers(
     ensures room { OnOk result ((now at : ℕ) → 2 ≤ at → at ≤ top dataset.now → spent_in dataset.now base.now (ingested dataset.now base.now now) at ≡ None) }
     ensures spent { IfErr result (OfSpent (λ at c. (now : ℕ) → IsFirstSpent dataset.now base.now (ingested dataset.now base.now now) at c)) }
 {
-    let Ok(edges) = placed_edges(alloc, dataset, base) else {
+    let Ok(edges) = placed_edges(alloc, dataset, base, ends) else {
         return Err(LayersError::NoMemory);
     };
     let edges = by_level(edges);

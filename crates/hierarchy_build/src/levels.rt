@@ -1,18 +1,17 @@
 //! The edges of a base by the places of their ends, with the layer in which the ends come into one chunk.
 
-ghost use Rattle.std.specs.Prelude.{◌≡◌, ◌<◌, ◌≤◌, ◌^◌, ◌==◌, IsTrue, length, map, slice_index_or, IfOk, IsPermutation};
+ghost use Rattle.std.specs.Prelude.{◌≡◌, ◌==◌, map, IfOk, IsPermutation};
 ghost use Rattle.std.specs.List.{filter};
 ghost use Rattle.std.specs.List.Sorted.{IsNonDecreasingBy};
-ghost use Rattle.graph_model.specs.Lists.{has};
 ghost use Rattle.op_model.specs.Chunks.{cell};
-ghost use Rattle.op_model.specs.Valid.{IsBase, IsDataset, IsEdge, IsSupervoxel};
-ghost use Rattle.hierarchy_build.specs.Places.{placed};
+ghost use Rattle.op_model.specs.Valid.{IsBase, IsDataset};
+ghost use Rattle.base_rows.specs.Lists.{IsPlaced};
+ghost use Rattle.hierarchy_build.specs.Places.{ArePlaces, placed};
 
-use crate::lists::{edges_of, ids_of};
-use crate::places::place_of;
+use base_rows::BaseEdge;
 use chunk_geometry::Cell;
 use node_ids::NodeId;
-use op_model::{Base, Dataset, Edge};
+use op_model::{Base, Dataset};
 use pcg_base::NoMemory;
 use std::alloc::Global;
 
@@ -42,26 +41,24 @@ fn cell(dataset: &Dataset, sv: NodeId) -> Cell
     }
 }
 
-// an edge by the places of its ends
-fn placed(dataset: &Dataset, base: &Base, edge: &Edge) -> PlacedEdge
+// an edge by the places of its ends, with its level
+fn placed(dataset: &Dataset, base: &Base, end: &BaseEdge) -> PlacedEdge
     requires dataset { IsDataset dataset.now }
     requires base { IsBase dataset.now base.now }
-    requires size { length base.now.supervoxels < 2 ^ 32 }
-    requires edge { IsEdge base.now.supervoxels edge.now }
-    ensures { result ≡ placed dataset.now base.now edge.now }
+    requires placed { IsPlaced base.now.supervoxels end.now }
+    ensures { result ≡ placed dataset.now base.now end.now.edge }
 {
-    let ids = ids_of(base);
-    let (a, b) = (edge.pair.a, edge.pair.b);
+    let _ = base;
+    let (a, b) = (end.edge.pair.a, end.edge.pair.b);
     PlacedEdge {
-        lesser: place_of(ids, a),
-        greater: place_of(ids, b),
+        lesser: end.lesser,
+        greater: end.greater,
         level: dataset.grid.level(cell(dataset, a), cell(dataset, b)),
-        active: edge.active,
+        active: end.edge.active,
     }
 }
 
-/// The edges of a base, in its order, by the places of their ends. The base has fewer than 2^32
-/// supervoxels.
+/// The edges of a base, in its order, by the places of their ends, with the level of each.
 ///
 /// # Errors
 ///
@@ -70,15 +67,16 @@ pub fn placed_edges(
     alloc: Global,
     dataset: &Dataset,
     base: &Base,
+    ends: &[BaseEdge],
 ) -> Result<Vec<PlacedEdge>, NoMemory>
     requires dataset { IsDataset dataset.now }
     requires base { IsBase dataset.now base.now }
-    requires size { length base.now.supervoxels < 2 ^ 32 }
+    requires places { ArePlaces base.now ends.now }
     ensures { IfOk result (λ v. v.items ≡ map (placed dataset.now base.now) base.now.edges) }
 {
     let mut list = Vec::new(alloc);
-    for edge in edges_of(base) {
-        let Ok(()) = list.push(placed(dataset, base, edge)) else {
+    for end in ends {
+        let Ok(()) = list.push(placed(dataset, base, end)) else {
             return Err(NoMemory);
         };
     }

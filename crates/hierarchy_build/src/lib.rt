@@ -14,12 +14,12 @@
 //! [`base_chunks`], [`base_nodes`] and [`base_edges`] give the lists of which the base's first records are made.
 //!
 //! - `places`: the place of a supervoxel, by halving.
-//! - `levels`: the edges by places, and by the layer in which their ends come together.
+//! - `edging`: the edges with the places of their ends, in the base's order and in that of their records.
+//! - `levels`: the edges by the layer in which their ends come together.
 //! - `rising`: the least leaves of a layer from those of the layer below.
 //! - `numbering`: the nodes of a layer by their chunks, and their numbers.
 //! - `layers`: all layers.
 //! - `chunking`: the chunks of all layers, and the nodes with the places of their chunks.
-//! - `edging`: the edges in the order of their records, with the places of their ends.
 //! - `linking`: the links of all nodes to their children.
 //! - `counting`: how many records the base and its first entry take.
 //! - `building`: the words of all records.
@@ -47,7 +47,7 @@ mod tests;
 pub use building::build;
 pub use chunking::{base_chunks, base_nodes, chunk_count};
 pub use counting::records_of;
-pub use edging::base_edges;
+pub use edging::{base_edges, edge_places};
 pub use errors::{BuildError, LayersError};
 pub use laws::children_lead;
 pub use layers::{Layer, build_layers};

@@ -6,7 +6,7 @@ ghost use Rattle.op_model.specs.Samples.{base, data_a};
 
 use crate::{
     BuildError, Made, PlacedEdge, base_chunks, base_edges, base_links, base_nodes, build,
-    build_layers, chunk_count, placed_edges, records_of,
+    build_layers, chunk_count, edge_places, placed_edges, records_of,
 };
 use base_rows::{BaseEdge, BaseLink, BaseNode};
 use chunk_geometry::Grid;
@@ -108,7 +108,10 @@ fn sample_layers(rt: HostRuntime) {
     let Some(base) = base(alloc) else {
         panic!(rt; "memory")
     };
-    let Ok(edges) = placed_edges(alloc, &dataset, &base) else {
+    let Ok(ends) = edge_places(alloc, &dataset, &base) else {
+        panic!(rt; "memory")
+    };
+    let Ok(edges) = placed_edges(alloc, &dataset, &base, &ends) else {
         panic!(rt; "memory")
     };
     assert_eq!(rt;
@@ -120,7 +123,7 @@ fn sample_layers(rt: HostRuntime) {
         ]
         .as_slice()
     );
-    let Ok(layers) = build_layers(alloc, &dataset, &base) else {
+    let Ok(layers) = build_layers(alloc, &dataset, &base, &ends) else {
         panic!(rt; "memory")
     };
     let [second, third] = layers.as_slice() else {
@@ -172,7 +175,10 @@ fn sample_nodes(rt: HostRuntime) {
     let Some(base) = base(alloc) else {
         panic!(rt; "memory")
     };
-    let Ok(layers) = build_layers(alloc, &dataset, &base) else {
+    let Ok(ends) = edge_places(alloc, &dataset, &base) else {
+        panic!(rt; "memory")
+    };
+    let Ok(layers) = build_layers(alloc, &dataset, &base, &ends) else {
         panic!(rt; "memory")
     };
     assert_eq!(rt; chunk_count(&dataset, &base, &layers), 3);
@@ -213,9 +219,10 @@ fn sample_edges(rt: HostRuntime) {
     let Some(base) = base(alloc) else {
         panic!(rt; "memory")
     };
-    let Ok(edges) = base_edges(alloc, &dataset, &base) else {
+    let Ok(ends) = edge_places(alloc, &dataset, &base) else {
         panic!(rt; "memory")
     };
+    let edges = base_edges(&dataset, &base, ends);
     assert_eq!(rt;
         edges.as_slice(),
         [
@@ -240,7 +247,10 @@ fn sample_links(rt: HostRuntime) {
     let Some(base) = base(alloc) else {
         panic!(rt; "memory")
     };
-    let Ok(layers) = build_layers(alloc, &dataset, &base) else {
+    let Ok(ends) = edge_places(alloc, &dataset, &base) else {
+        panic!(rt; "memory")
+    };
+    let Ok(layers) = build_layers(alloc, &dataset, &base, &ends) else {
         panic!(rt; "two layers")
     };
     let count = records_of(&base, &layers, 3);

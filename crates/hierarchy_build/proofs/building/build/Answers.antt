@@ -15,5 +15,5 @@ records_of-need-requires-clause-chunks c =
 
 pub returns-then-need-dataset-clause-refused : goal.returns-then-need-dataset-clause-refused
 returns-then-need-dataset-clause-refused c =
-    let built : AreBuilt c.args.dataset.now c.args.base.now c.in-Ok.layers.items = record { dataset = c.requires.dataset; base = c.requires.base; layers = c.in-Ok.ensures.layers; count = c.in-Ok.ensures.count } in
-    (λ now. (c.in-Ok.ensures.fit now, c.records_of-need.ensures.is c.args.dataset.now now (subst (AreBuilt c.args.dataset.now c.args.base.now) (sym c.deref.ensures.value) built) c.chunk_count.ensures), refl, c.if-need-dataset.true)
+    let built : AreBuilt c.args.dataset.now c.args.base.now c.in-Ok-build_layers.layers.items = record { dataset = c.requires.dataset; base = c.requires.base; layers = c.in-Ok-build_layers.ensures.layers; count = c.in-Ok-build_layers.ensures.count } in
+    (λ now. (c.in-Ok-build_layers.ensures.fit now, c.records_of-need.ensures.is c.args.dataset.now now (subst (AreBuilt c.args.dataset.now c.args.base.now) (sym c.deref-2.ensures.value) built) c.chunk_count.ensures), refl, c.if-need-dataset.true)

@@ -8,8 +8,8 @@ use Rattle.hierarchy_build.proofs.edging.base_edges.Goals as goal
 
 pub returns-clause-edges : goal.returns-clause-edges
 unfolding edges edges_after
-returns-clause-edges c = c.by_pair.ensures.sorted ∙ ap (λ (es : List Edge). put_edges es []) c.in_ok-in_order.ensures.edges
+returns-clause-edges c = c.by_pair.ensures.sorted ∙ ap (λ (es : List Edge). put_edges es []) c.requires.places.edges
 
 pub returns-clause-placed : goal.returns-clause-placed
 returns-clause-placed c =
-    All-permutation (IsPlaced c.args.base.now.supervoxels) c.in_ok-in_order.field-0.items c.by_pair.result.items c.by_pair.ensures.moved c.in_ok-in_order.ensures.placed
+    All-permutation (IsPlaced c.args.base.now.supervoxels) c.args.ends.items c.by_pair.result.items c.by_pair.ensures.moved c.requires.places.placed

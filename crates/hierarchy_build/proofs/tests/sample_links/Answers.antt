@@ -21,13 +21,16 @@ sample_built d b ls now e f are count same = (
   }),
 )
 
+pub edge_places-requires-clause-base : goal.edge_places-requires-clause-base
+edge_places-requires-clause-base g c = base_of c.in-Some.dataset c.in-Some-base.base c.in-Some.ensures c.in-Some-base.ensures
+
 pub build_layers-requires-clause-base : goal.build_layers-requires-clause-base
 build_layers-requires-clause-base g c = base_of c.in-Some.dataset c.in-Some-base.base c.in-Some.ensures c.in-Some-base.ensures
 
 pub records_of-count-requires-clause-built : goal.records_of-count-requires-clause-built
 records_of-count-requires-clause-built g c =
-    sample_built c.in-Some.dataset c.in-Some-base.base c.in-Ok.layers.items c.deref.result.now c.in-Some.ensures c.in-Some-base.ensures c.in-Ok.ensures.layers c.in-Ok.ensures.count c.deref.ensures.value
+    sample_built c.in-Some.dataset c.in-Some-base.base c.in-Ok-build_layers.layers.items c.deref-2.result.now c.in-Some.ensures c.in-Some-base.ensures c.in-Ok-build_layers.ensures.layers c.in-Ok-build_layers.ensures.count c.deref-2.ensures.value
 
 pub base_links-requires-clause-built : goal.base_links-requires-clause-built
 base_links-requires-clause-built g c =
-    sample_built c.in-Some.dataset c.in-Some-base.base c.in-Ok.layers.items c.deref-2.result.now c.in-Some.ensures c.in-Some-base.ensures c.in-Ok.ensures.layers c.in-Ok.ensures.count c.deref-2.ensures.value
+    sample_built c.in-Some.dataset c.in-Some-base.base c.in-Ok-build_layers.layers.items c.deref-3.result.now c.in-Some.ensures c.in-Some-base.ensures c.in-Ok-build_layers.ensures.layers c.in-Ok-build_layers.ensures.count c.deref-3.ensures.value
