@@ -75,7 +75,8 @@ fn error_of(dataset: &Dataset, error: LayersError) -> BuildError
 /// # Errors
 ///
 /// `IdsSpent` exactly where a chunk has more nodes than its ids have numbers; else `TooSmall` exactly
-/// where more records are needed than the capacity; `NoMemory` where there is none for the work.
+/// where more records are needed than the capacity; `NoMemory` where there is none for the work, and
+/// for a base of 2^32 supervoxels or more, whose places need more than 32 bits.
 pub fn build(
     alloc: Global,
     base: &Base,
