@@ -9,7 +9,7 @@
 //! last three numbers are 0. Status 1: the words are of another form; 5: memory ran out or the clock failed.
 #![tactic(auto)]
 
-ghost use Rattle.op_model.specs.Valid.{IsDataset};
+ghost use Rattle.op_model.specs.Valid.{IsBase, IsDataset};
 ghost use Rattle.bench_base.specs.Bases.{IsCount};
 
 mod steps;
