@@ -1,6 +1,6 @@
 //! The tables of drawn bases.
 
-ghost use Rattle.std.specs.Prelude.{◌<◌, ◌≤◌};
+ghost use Rattle.std.specs.Prelude.{◌<◌};
 
 use node_ids::{NodeId, Parts};
 use op_model::{Dataset, Pair};

@@ -19,7 +19,7 @@ mod words;
 use chunk_geometry::Grid;
 use node_ids::Layout;
 use op_model::{Base, Dataset};
-use pcg_base::{VecWords, Words};
+use pcg_base::Words;
 use std::alloc::Global;
 use std::process::ExitCode;
 use std::rt::Clock;

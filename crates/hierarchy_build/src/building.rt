@@ -1,7 +1,6 @@
 //! The words of a base and its first entry.
 
-ghost use Rattle.std.specs.Prelude.{◌≡◌, ◌<◌, ◌≤◌, ◌-◌, ◌+◌, ◌*◌, ◌^◌, ℕ, length, min, IfOk, IfErr, OnOk};
-ghost use Rattle.op_model.specs.Chunks.{top};
+ghost use Rattle.std.specs.Prelude.{◌<◌, ◌≤◌, ◌-◌, ◌+◌, ◌*◌, ◌^◌, ℕ, length, min, IfOk, IfErr, OnOk};
 ghost use Rattle.op_model.specs.Legal.{LabelsFit};
 ghost use Rattle.op_model.specs.Records.{records};
 ghost use Rattle.op_model.specs.Valid.{IsBase, IsDataset};

@@ -1,6 +1,6 @@
 //! The edges of a base in the order of their records, with the places of their ends.
 
-ghost use Rattle.std.specs.Prelude.{◌≡◌, ◌<◌, ◌^◌, ◌++◌, [], ◌∷◌, length, map, IfOk, IsPermutation};
+ghost use Rattle.std.specs.Prelude.{◌≡◌, ◌<◌, ◌^◌, [], length, map, IfOk, IsPermutation};
 ghost use Rattle.std.specs.List.{All};
 ghost use Rattle.base_rows.specs.Lists.{IsPlaced};
 ghost use Rattle.op_model.specs.Edges.{put_edges};

@@ -1,6 +1,6 @@
 //! What the two tables make: a base, and the log that it begins.
 
-ghost use Rattle.std.specs.Prelude.{◌≡◌, ◌≤◌, ◌<◌, ◌^◌, ℕ, IfOk, IfErr, length};
+ghost use Rattle.std.specs.Prelude.{◌≡◌, ◌<◌, ℕ, IfOk, IfErr};
 ghost use Rattle.pcg_words.specs.Job.{HasRanges};
 ghost use Rattle.op_model.specs.Valid.{IsDataset};
 ghost use Rattle.table_ingest.specs.Bases.{Spells};

@@ -8,7 +8,6 @@ ghost use Rattle.pcg_words.specs.Job.{IsJob};
 ghost use Rattle.request_lines.specs.Texts.{text_of_entry};
 ghost use Rattle.pcg_serve.specs.Causes.{EndsSo, HasBadTable, HasFullBase, HasLongTable, IsDue, IsUnbuilt, StatusSo, StopCause, has_one_client};
 ghost use Rattle.pcg_serve.specs.Headline.{CamePast, DoneAt, IsDone, IsQuiet, KeepsOthers, Outcome, Prints, fault_status, faults_of};
-ghost use Rattle.pcg_serve.specs.Ingests.{IsIngest};
 ghost use Rattle.pcg_serve.specs.Statuses.{status_of};
 ghost use Rattle.pcg_serve.specs.Texts.{stop_text, summary_text};
 
