@@ -16,7 +16,7 @@ use Rattle.record_rows.proofs.DifferLemmas.{all_map}
 use Rattle.record_rows.specs.LogRows.{children_of, links_of, layer_nodes, new_links}
 use Rattle.base_rows.specs.declared.lists.BaseLink.{BaseLink}
 use Rattle.base_rows.specs.Lists.{IsWithin, link_of}
-use Rattle.plain_hierarchy.specs.Ingest.{ingested}
+use Rattle.op_model.specs.Ingest.{ingested}
 use Rattle.hierarchy_build.specs.declared.numbering.Made.{Made}
 use Rattle.hierarchy_build.specs.declared.layers.Layer.{Layer}
 use Rattle.hierarchy_build.specs.Numbers.{leaves_at, node_of}

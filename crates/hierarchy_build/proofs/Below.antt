@@ -25,8 +25,8 @@ use Rattle.layer_laws.proofs.StepLemmas.{leaves_iff, leaves_above, joined_known}
 use Rattle.layer_laws.proofs.OrderLemmas.{get_has}
 use Rattle.layer_laws.proofs.PlaceLemmas.{at_one}
 use Rattle.layer_laws.proofs.BuildLemmas.{leaf_in, leaf_same}
-use Rattle.plain_hierarchy.specs.Ingest.{ingested}
-use Rattle.plain_hierarchy.proofs.Places.{top_low}
+use Rattle.op_model.specs.Ingest.{ingested}
+use Rattle.op_model.proofs.ChunkLemmas.{top_low}
 use Rattle.hierarchy_build.specs.declared.numbering.Made.{Made}
 use Rattle.hierarchy_build.specs.declared.layers.Layer.{Layer}
 use Rattle.hierarchy_build.specs.Numbers.{IsOwn, leaves_at}

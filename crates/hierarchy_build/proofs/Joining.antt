@@ -16,8 +16,8 @@ use Rattle.layer_laws.specs.Building.{AreLeastLeaves, ArePairs}
 use Rattle.layer_laws.proofs.RiseLemmas.{level_sym}
 use Rattle.layer_laws.proofs.BuildLemmas.{next_leaves}
 use Rattle.record_rows.proofs.DifferLemmas.{all_map, all_more, all_filter, all_both}
-use Rattle.plain_hierarchy.specs.Ingest.{ingested}
-use Rattle.plain_hierarchy.proofs.Ingests.{linked_base}
+use Rattle.op_model.specs.Ingest.{ingested}
+use Rattle.layer_laws.proofs.IngestLemmas.{linked_base}
 use Rattle.hierarchy_build.specs.declared.levels.PlacedEdge.{PlacedEdge}
 use Rattle.hierarchy_build.specs.Places.{place_of, placed}
 use Rattle.hierarchy_build.specs.Pairs.{joins_at, pair_at, pairs_at, AreEdges}

@@ -13,9 +13,9 @@ use Rattle.graph_model.specs.Lists.{has, head_or}
 use Rattle.op_model.specs.Chunks.{chunk, members, top}
 use Rattle.op_model.specs.Labels.{is_empty, is_new, component, least, new_among, used, label, node}
 use Rattle.op_model.specs.Operations.{first_entry}
-use Rattle.op_model.specs.Valid.{IsDataset, IsBase, IsSupervoxel, IsAscending}
+use Rattle.op_model.specs.Valid.{IsDataset, IsBase, IsAscending}
 use Rattle.graph_model.proofs.ListLemmas.{filter_same, filter_has, filter_only, filter_length, head_same, same_bool}
-use Rattle.op_model.proofs.LegalLemmas.{all_has, ascending_has, map_has}
+use Rattle.op_model.proofs.LegalLemmas.{ascending_has, map_has}
 use Rattle.op_model.proofs.CutLemmas.{find_none_at}
 use Rattle.op_model.proofs.LabelLemmas.{members_in, own_component, label_used}
 use Rattle.record_rows.specs.LogRows.{layer_chunks, new_node, layer_nodes}
@@ -28,11 +28,11 @@ use Rattle.layer_laws.specs.Levels.{AreFirsts}
 use Rattle.layer_laws.specs.Building.{AreLeastLeaves}
 use Rattle.layer_laws.proofs.OrderLemmas.{get_has, filter_ascending, members_ascending, label_at}
 use Rattle.layer_laws.proofs.BuildLemmas.{own_place}
-use Rattle.plain_hierarchy.specs.Ingest.{ingested}
-use Rattle.plain_hierarchy.proofs.Places.{chunk_small, top_low}
+use Rattle.op_model.specs.Ingest.{ingested, spent_in}
+use Rattle.op_model.proofs.ChunkLemmas.{chunk_small, top_low}
 use Rattle.hierarchy_build.specs.declared.numbering.Owner.{Owner}
 use Rattle.hierarchy_build.specs.declared.numbering.Made.{Made}
-use Rattle.hierarchy_build.specs.Numbers.{owner, owners, AreByChunk, IsOwn, leaves_at, node_of, number_behind, numbered, overflow, told, told_node, spent_in, LabelsFitIn}
+use Rattle.hierarchy_build.specs.Numbers.{owner, owners, AreByChunk, IsOwn, leaves_at, node_of, number_behind, numbered, overflow, told, told_node, LabelsFitIn}
 use Rattle.components.proofs.Least.{has_below}
 use Rattle.hierarchy_build.proofs.Joining.{filter_both}
 use Rattle.hierarchy_build.proofs.Leaves.{filter_of_map, map_twice, whole, range_in, leads_to_itself, leaves_stand}
@@ -288,7 +288,7 @@ module _ (d : Dataset) (b : Base) (valid : IsDataset d) (base : IsBase d b) (now
 
     pub small_keys : All (λ (o : Owner). o.chunk < 2 ^ 62) ks
     small_keys =
-        each_key (λ c. c < 2 ^ 62) (λ v h. chunk_small d valid layer (let t = top_low d in omega arith) v (all_has (IsSupervoxel d) b.supervoxels v base.supervoxels h))
+        each_key (λ c. c < 2 ^ 62) (λ v h. chunk_small d valid.layout layer (let t = top_low d in omega arith) v)
 
     pub few_keys : length ks ≤ length b.supervoxels
     unfolding owners
@@ -388,7 +388,7 @@ module _ (d : Dataset) (b : Base) (valid : IsDataset d) (base : IsBase d b) (now
         numbered_has j 0 0 ks (sym (list_any-IsPermutation (λ (o : Owner). eqb o.least j) (owners d b layer firsts) ks by.moved) ∙ owners_has d b layer j (filter t (range_with_len 0 (length b.supervoxels))) there)
 
     pub spent_is : (limit : ℕ) → 1 ≤ limit → limit ≡ segments d.layout layer → overflow limit 0 0 ks ≡ spent_in d b (ingested d b now) layer
-    unfolding spent_in cs
+    unfolding spent_in cs layer_chunks
     spent_is limit some e =
         let tests : (λ c. leb limit (length (group c))) ≡ (λ c. leb (segments d.layout layer) (used d b (ingested d b now) layer c)) = λ i c. leb (e i) (used_is c i) in
         ap (overflow limit 0 0) keys_are ∙ (over_groups group limit some cs cs_differ all_in 0 0 cs_some ∙ ap (λ t. find t cs) tests)

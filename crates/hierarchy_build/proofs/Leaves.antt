@@ -14,7 +14,7 @@ use Rattle.layer_laws.proofs.StepLemmas.{leaves_node, leaves_self}
 use Rattle.layer_laws.proofs.OrderLemmas.{get_has, filter_ascending, same_ascending}
 use Rattle.layer_laws.proofs.PlaceLemmas.{at_one}
 use Rattle.layer_laws.proofs.BuildLemmas.{leaves_ascending, same_leaves_of, leaf_in, leaf_same, leaves_known}
-use Rattle.plain_hierarchy.specs.Ingest.{ingested}
+use Rattle.op_model.specs.Ingest.{ingested}
 use Rattle.hierarchy_build.specs.Places.{place_of}
 use Rattle.hierarchy_build.specs.Numbers.{leaves_at}
 use Rattle.hierarchy_build.proofs.Placing.{place_at, place_is}

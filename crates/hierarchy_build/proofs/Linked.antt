@@ -17,7 +17,7 @@ use Rattle.record_rows.proofs.OnceLemmas.{all_has_self}
 use Rattle.base_rows.specs.declared.lists.BaseLink.{BaseLink}
 use Rattle.base_rows.specs.Lists.{IsWithin, link_of}
 use Rattle.layer_laws.proofs.PlaceLemmas.{at_one}
-use Rattle.plain_hierarchy.specs.Ingest.{ingested}
+use Rattle.op_model.specs.Ingest.{ingested}
 use Rattle.hierarchy_build.specs.declared.numbering.Made.{Made}
 use Rattle.hierarchy_build.specs.declared.layers.Layer.{Layer}
 use Rattle.hierarchy_build.specs.Numbers.{leaves_at, node_of}

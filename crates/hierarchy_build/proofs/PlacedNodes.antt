@@ -14,7 +14,7 @@ use Rattle.record_rows.specs.Rows.{Node}
 use Rattle.record_rows.specs.LogRows.{chunks}
 use Rattle.base_rows.specs.declared.lists.BaseNode.{BaseNode}
 use Rattle.base_rows.specs.Lists.{IsNode, AreNodes}
-use Rattle.plain_hierarchy.specs.Ingest.{ingested}
+use Rattle.op_model.specs.Ingest.{ingested}
 use Rattle.hierarchy_build.specs.declared.numbering.Made.{Made}
 use Rattle.hierarchy_build.specs.declared.layers.Layer.{Layer}
 use Rattle.hierarchy_build.specs.Numbers.{leaves_at, node_of, told, told_node}

@@ -6,7 +6,7 @@ use Rattle.op_model.specs.declared.Base.{Base}
 use Rattle.op_model.specs.Chunks.{top}
 use Rattle.op_model.specs.Valid.{IsBase, IsDataset}
 use Rattle.record_rows.specs.LogRows.{children_of}
-use Rattle.plain_hierarchy.specs.Ingest.{ingested}
+use Rattle.op_model.specs.Ingest.{ingested}
 use Rattle.layer_laws.specs.Building.{at}
 use Rattle.hierarchy_build.specs.declared.layers.Layer.{Layer}
 use Rattle.hierarchy_build.specs.Numbers.{leaves_at}

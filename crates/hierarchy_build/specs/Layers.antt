@@ -1,18 +1,17 @@
 -- The layers of a base's octree as they are built.
-use Rattle.std.specs.Prelude.{◌≡◌, ℕ, ◌+◌, ◌≤◌, ◌<◌, List, [], ◌∷◌, length, map, Some, None, IsTrue}
+use Rattle.std.specs.Prelude.{◌≡◌, ℕ, ◌+◌, ◌<◌, List, [], ◌∷◌, length, map, IsTrue}
 use Rattle.std.specs.List.{All, flat_map}
 use Rattle.graph_model.specs.Lists.{has}
 use Rattle.op_model.specs.declared.Dataset.{Dataset}
 use Rattle.op_model.specs.declared.Base.{Base}
 use Rattle.op_model.specs.declared.Entry.{Entry}
-use Rattle.op_model.specs.Chunks.{top}
 use Rattle.op_model.specs.Labels.{node}
 use Rattle.op_model.specs.Valid.{IsAscending}
 use Rattle.record_rows.specs.Rows.{Node}
 use Rattle.record_rows.specs.LogRows.{layer_nodes}
 use Rattle.layer_laws.specs.Building.{AreLeastLeaves, at}
 use Rattle.hierarchy_build.specs.declared.layers.Layer.{Layer}
-use Rattle.hierarchy_build.specs.Numbers.{IsOwn, told, told_node, node_of, spent_in}
+use Rattle.hierarchy_build.specs.Numbers.{IsOwn, told, told_node, node_of}
 
 -- The layer has the place of the least leaf for each supervoxel, and its nodes in the order of their records: told by their least leaves, and as they stand in the records.
 -- The places that lead to a node's least leaf are those of its leaves, and each place leads to that of some node.
@@ -38,9 +37,3 @@ all_nodes b ls = flat_map (λ l. map (node_of b l.firsts.items) l.made.items) ls
 unfoldable pub last_firsts : List ℕ → List Layer → List ℕ
 last_firsts firsts [] = firsts
 last_firsts firsts (l ∷ ls) = last_firsts l.firsts.items ls
-
--- this is the first chunk, by layers and then by ids, that has given a number which its ids don't hold
-pub record IsFirstSpent (d : Dataset) (b : Base) (log : List Entry) (layer c : ℕ) : Type 0 where
-  pub within : (2 ≤ layer) × (layer ≤ top d)
-  pub spent : spent_in d b log layer ≡ Some c
-  pub before : (l : ℕ) → 2 ≤ l → l < layer → spent_in d b log l ≡ None

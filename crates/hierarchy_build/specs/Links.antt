@@ -8,7 +8,7 @@ use Rattle.graph_model.specs.Lists.{has}
 use Rattle.op_model.specs.Chunks.{top}
 use Rattle.op_model.specs.Valid.{IsBase, IsDataset}
 use Rattle.base_rows.specs.declared.lists.BaseLink.{BaseLink}
-use Rattle.plain_hierarchy.specs.Ingest.{ingested}
+use Rattle.op_model.specs.Ingest.{ingested}
 use Rattle.layer_laws.specs.Building.{at}
 use Rattle.hierarchy_build.specs.declared.layers.Layer.{Layer}
 use Rattle.hierarchy_build.specs.Layers.{AreLayers}

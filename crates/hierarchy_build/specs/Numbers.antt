@@ -1,6 +1,6 @@
 -- The nodes of a layer and their numbers, which they have in their chunks in the order of least leaves.
 use Rattle.std.specs.Prelude.{◌≡◌, ℕ, ◌+◌, ◌<◌, ◌==◌, nat_le, if◌then◌else◌, List, [], ◌∷◌, length, map, Option, Some, None, ⊤}
-use Rattle.std.specs.List.{AllByRecursion, filter, find, range_with_len}
+use Rattle.std.specs.List.{AllByRecursion, filter, range_with_len}
 use Rattle.std.specs.List.Sorted.{IsPermutation, IsNonDecreasingBy}
 use Rattle.node_ids.specs.Ids.{segments}
 use Rattle.op_model.specs.declared.Dataset.{Dataset}
@@ -8,9 +8,8 @@ use Rattle.op_model.specs.declared.Base.{Base}
 use Rattle.op_model.specs.declared.Entry.{Entry}
 use Rattle.graph_model.specs.Lists.{head_or}
 use Rattle.op_model.specs.Chunks.{chunk}
-use Rattle.op_model.specs.Labels.{used, label}
+use Rattle.op_model.specs.Labels.{label}
 use Rattle.record_rows.specs.Rows.{Node}
-use Rattle.record_rows.specs.LogRows.{layer_chunks}
 use Rattle.layer_laws.specs.Building.{at}
 use Rattle.hierarchy_build.specs.declared.numbering.Owner.{Owner}
 use Rattle.hierarchy_build.specs.declared.numbering.Made.{Made}
@@ -69,10 +68,6 @@ node_of b firsts m = record { id = m.id; chunk = m.chunk; leaves = leaves_at b f
 -- the node's least leaf is a supervoxel whose place leads to itself
 abbrev pub IsOwn : Base → List ℕ → ℕ → Type 0
 IsOwn b firsts i = (i < length b.supervoxels) × (at firsts i ≡ i)
-
--- the first chunk of a layer that has given a number which its ids don't hold
-unfoldable pub spent_in : Dataset → Base → List Entry → ℕ → Option ℕ
-spent_in d b log layer = find (λ c. nat_le (segments d.layout layer) (used d b log layer c)) (layer_chunks d b layer)
 
 -- each label of a layer fits the segment of an id
 abbrev pub LabelsFitIn : Dataset → Base → List Entry → ℕ → Type 0

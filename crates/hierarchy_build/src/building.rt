@@ -5,7 +5,7 @@ ghost use Rattle.op_model.specs.Legal.{LabelsFit};
 ghost use Rattle.op_model.specs.Records.{records};
 ghost use Rattle.op_model.specs.Valid.{IsBase, IsDataset};
 ghost use Rattle.record_rows.specs.Readings.{Image};
-ghost use Rattle.plain_hierarchy.specs.Ingest.{ingested};
+ghost use Rattle.op_model.specs.Ingest.{ingested};
 ghost use Rattle.hierarchy_build.specs.Layers.{all_nodes};
 ghost use Rattle.hierarchy_build.specs.Links.{AreBuilt};
 ghost use Rattle.hierarchy_build.specs.Places.{ArePlaces};

@@ -6,7 +6,7 @@ ghost use Rattle.base_rows.specs.Lists.{AreNodes};
 ghost use Rattle.op_model.specs.Chunks.{top};
 ghost use Rattle.op_model.specs.Valid.{IsBase, IsDataset};
 ghost use Rattle.record_rows.specs.LogRows.{chunks};
-ghost use Rattle.plain_hierarchy.specs.Ingest.{ingested};
+ghost use Rattle.op_model.specs.Ingest.{ingested};
 ghost use Rattle.hierarchy_build.specs.Layers.{all_nodes, AreLayers};
 ghost use Rattle.hierarchy_build.specs.Chunked.{base_node, chunks_behind, count_behind, fresh, nodes_behind};
 

@@ -7,12 +7,12 @@ ghost use Rattle.op_model.specs.Chunks.{top};
 ghost use Rattle.op_model.specs.Legal.{LabelsFit};
 ghost use Rattle.op_model.specs.Valid.{IsBase, IsDataset};
 ghost use Rattle.record_rows.specs.LogRows.{new_nodes};
-ghost use Rattle.plain_hierarchy.specs.Ingest.{ingested};
+ghost use Rattle.op_model.specs.Ingest.{ingested, IsFirstSpent, spent_in};
 ghost use Rattle.layer_laws.specs.Building.{AreLeastLeaves};
 ghost use Rattle.hierarchy_build.specs.Pairs.{AreEdges};
 ghost use Rattle.hierarchy_build.specs.Places.{ArePlaces};
-ghost use Rattle.hierarchy_build.specs.Numbers.{LabelsFitIn, OfSpent, spent_in};
-ghost use Rattle.hierarchy_build.specs.Layers.{all_nodes, AreLayers, IsFirstSpent, IsLayer, last_firsts};
+ghost use Rattle.hierarchy_build.specs.Numbers.{LabelsFitIn, OfSpent};
+ghost use Rattle.hierarchy_build.specs.Layers.{all_nodes, AreLayers, IsLayer, last_firsts};
 
 use crate::errors::LayersError;
 use crate::levels::{PlacedEdge, by_level, placed_edges};

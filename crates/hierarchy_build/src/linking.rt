@@ -5,7 +5,7 @@ ghost use Rattle.std.specs.List.{All};
 ghost use Rattle.op_model.specs.declared.Dataset.{Dataset};
 ghost use Rattle.record_rows.specs.LogRows.{new_links};
 ghost use Rattle.base_rows.specs.Lists.{IsWithin, link_of};
-ghost use Rattle.plain_hierarchy.specs.Ingest.{ingested};
+ghost use Rattle.op_model.specs.Ingest.{ingested};
 ghost use Rattle.hierarchy_build.specs.Layers.{all_nodes};
 ghost use Rattle.hierarchy_build.specs.Links.{AreBuilt, AreByParent, AreLayerLinks, AreRanks, child_links};
 

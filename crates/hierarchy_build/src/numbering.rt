@@ -4,18 +4,18 @@ ghost use Rattle.std.specs.Prelude.{◌≡◌, ◌<◌, ◌≤◌, ◌^◌, ◌+
 ghost use Rattle.std.specs.List.{All};
 ghost use Rattle.graph_model.specs.Lists.{has};
 ghost use Rattle.node_ids.specs.Ids.{segments};
-ghost use Rattle.op_model.specs.Chunks.{chunk, top};
+ghost use Rattle.op_model.specs.Chunks.{top};
 ghost use Rattle.op_model.specs.Labels.{node};
-ghost use Rattle.op_model.specs.Valid.{IsAscending, IsBase, IsDataset, IsSupervoxel};
+ghost use Rattle.op_model.specs.Valid.{IsAscending, IsBase, IsDataset};
 ghost use Rattle.record_rows.specs.LogRows.{layer_nodes};
-ghost use Rattle.plain_hierarchy.specs.Ingest.{ingested};
+ghost use Rattle.op_model.specs.Ingest.{ingested, spent_in};
 ghost use Rattle.layer_laws.specs.Building.{AreLeastLeaves};
-ghost use Rattle.hierarchy_build.specs.Numbers.{AreByChunk, IsOwn, LabelsFitIn, OfSpent, node_of, number_behind, numbered, overflow, owner_at, owners, spent_in, told, told_node};
+ghost use Rattle.hierarchy_build.specs.Numbers.{AreByChunk, IsOwn, LabelsFitIn, OfSpent, node_of, number_behind, numbered, overflow, owner_at, owners, told, told_node};
 
 use crate::errors::LayersError;
 use crate::lists::ids_of;
-use chunk_geometry::Cell;
-use node_ids::{NodeId, Parts};
+use node_ids::NodeId;
+use op_model::chunks::chunk;
 use op_model::{Base, Dataset};
 use pcg_base::NoMemory;
 use std::alloc::Global;
@@ -36,33 +36,6 @@ pub struct Made {
 struct Owner {
     chunk: NodeId,
     least: u32,
-}
-
-// the chunk of a layer that holds a supervoxel
-fn chunk(dataset: &Dataset, layer: u8, sv: NodeId) -> NodeId
-    requires dataset { IsDataset dataset.now }
-    requires layer { (2 ≤ layer) × (layer ≤ top dataset.now) }
-    requires sv { IsSupervoxel dataset.now sv }
-    ensures { result ≡ chunk dataset.now layer sv }
-{
-    let parts = dataset.layout.unpack(sv);
-    let base = Cell {
-        x: parts.x,
-        y: parts.y,
-        z: parts.z,
-    };
-    let cell = dataset.grid.chunk_at(layer, base);
-    let place = Parts {
-        layer,
-        x: cell.x,
-        y: cell.y,
-        z: cell.z,
-        segment: 0,
-    };
-    match dataset.layout.pack(place) {
-        Ok(id) => id,
-        Err(_) => unreachable!(),
-    }
 }
 
 // puts the node at a place behind a list, if its least leaf stands there

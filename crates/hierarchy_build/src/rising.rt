@@ -6,7 +6,7 @@ ghost use Rattle.std.specs.List.Sorted.{IsNonDecreasingBy};
 ghost use Rattle.op_model.specs.declared.Dataset.{Dataset};
 ghost use Rattle.op_model.specs.declared.Base.{Base};
 ghost use Rattle.op_model.specs.Valid.{IsBase, IsDataset};
-ghost use Rattle.plain_hierarchy.specs.Ingest.{ingested};
+ghost use Rattle.op_model.specs.Ingest.{ingested};
 ghost use Rattle.layer_laws.specs.Building.{AreLeastLeaves};
 ghost use Rattle.hierarchy_build.specs.Pairs.{AreEdges, pair_at, pairs_at};
 

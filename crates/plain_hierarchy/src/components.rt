@@ -5,12 +5,14 @@ ghost use Rattle.graph_model.specs.Lists.{has};
 ghost use Rattle.op_model.specs.Chunks.{top};
 ghost use Rattle.op_model.specs.Labels.{component, least};
 ghost use Rattle.op_model.specs.Valid.{IsBase, IsDataset};
-ghost use Rattle.plain_hierarchy.specs.Ingest.{firsts, ingested};
+ghost use Rattle.op_model.specs.Ingest.{ingested};
+ghost use Rattle.plain_hierarchy.specs.Ingest.{firsts};
 
-use crate::chunks::{chunk, members};
+use crate::chunks::members;
 use crate::growth::joined;
 use crate::lists::{edges_of, head_or, ids_of, push};
 use node_ids::NodeId;
+use op_model::chunks::chunk;
 use op_model::{Base, Dataset, Ids};
 use pcg_base::NoMemory;
 use std::alloc::Global;

@@ -6,7 +6,7 @@
 //! is the body that faster ones are compared with. An octree of components is from Dorkenwald et al. 2022.
 //!
 //! - `lists`: lists of ids.
-//! - `chunks`: the chunks of supervoxels, and what lies in them.
+//! - `chunks`: the supervoxels of chunks.
 //! - `growth`: the search in breadth inside a chunk.
 //! - `components`: the supervoxels of a node, and the least of them.
 //! - `nodes`: the nodes of supervoxels, their roots and paths.

@@ -1,7 +1,7 @@
 use Rattle.std.proofs.Common.{◌+◌, ◌<◌, length, ap, subst, sym, arith}
 use Rattle.std.specs.List.{All}
 use Rattle.std.proofs.lemmas.List.Elements.{All-from_recursion}
-use Rattle.plain_hierarchy.specs.Ingest.{ingested}
+use Rattle.op_model.specs.Ingest.{ingested}
 use Rattle.record_rows.specs.LogRows.{chunks}
 use Rattle.base_rows.specs.Lists.{AreNodes}
 use Rattle.hierarchy_build.specs.declared.numbering.Made.{Made}

@@ -1,10 +1,10 @@
 use Rattle.std.proofs.Common.{◌≡◌, ◌≤◌, ◌-◌, ℕ, Some, None, [], ◌∷◌, length, length-append, sym, ◌∙◌, ap, subst, inl, inr, arith}
 use Rattle.std.proofs.lemmas.Bool.{cases_lt}
 use Rattle.op_model.specs.Chunks.{top}
-use Rattle.plain_hierarchy.specs.Ingest.{ingested}
+use Rattle.op_model.specs.Ingest.{ingested, IsFirstSpent, spent_in}
 use Rattle.layer_laws.specs.Building.{AreLeastLeaves}
-use Rattle.hierarchy_build.specs.Numbers.{OfSpent, LabelsFitIn, spent_in}
-use Rattle.hierarchy_build.specs.Layers.{IsFirstSpent, last_firsts}
+use Rattle.hierarchy_build.specs.Numbers.{OfSpent, LabelsFitIn}
+use Rattle.hierarchy_build.specs.Layers.{last_firsts}
 use Rattle.hierarchy_build.proofs.AllLayers.{of_spent, layer_added, last_below, nodes_all, all_fit}
 use Rattle.hierarchy_build.proofs.layers.layers_over.Goals as goal
 

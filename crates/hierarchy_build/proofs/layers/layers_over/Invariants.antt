@@ -1,6 +1,6 @@
 use Rattle.std.proofs.Common.{◌≡◌, ℕ, ◌+◌, ◌≤◌, ◌<◌, None, length}
-use Rattle.plain_hierarchy.specs.Ingest.{ingested}
-use Rattle.hierarchy_build.specs.Numbers.{LabelsFitIn, spent_in}
+use Rattle.op_model.specs.Ingest.{ingested, spent_in}
+use Rattle.hierarchy_build.specs.Numbers.{LabelsFitIn}
 use Rattle.hierarchy_build.specs.Layers.{AreLayers}
 use Rattle.hierarchy_build.proofs.layers.layers_over.Given as goal
 

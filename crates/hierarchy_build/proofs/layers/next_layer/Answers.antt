@@ -1,5 +1,5 @@
 use Rattle.std.proofs.Common.{◌≡◌, ◌-◌, true, length, map, get_or, sym, subst, arith}
-use Rattle.plain_hierarchy.specs.Ingest.{ingested}
+use Rattle.op_model.specs.Ingest.{ingested}
 use Rattle.layer_laws.specs.Building.{AreLeastLeaves}
 use Rattle.std.specs.List.{All}
 use Rattle.graph_model.specs.Lists.{has}

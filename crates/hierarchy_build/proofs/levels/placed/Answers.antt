@@ -3,7 +3,7 @@ use Rattle.chunk_geometry.specs.declared.Cell.{Cell}
 use Rattle.chunk_geometry.specs.Grids.{in_grid}
 use Rattle.op_model.specs.Valid.{IsSupervoxel}
 use Rattle.op_model.proofs.LegalLemmas.{all_has}
-use Rattle.plain_hierarchy.proofs.Places.{in_cell}
+use Rattle.layer_laws.proofs.LevelLemmas.{in_cell}
 use Rattle.hierarchy_build.proofs.Placing.{greater_known, lesser_known, placed_is}
 use Rattle.hierarchy_build.proofs.levels.placed.Goals as goal
 

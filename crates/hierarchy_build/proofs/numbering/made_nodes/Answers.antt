@@ -4,7 +4,7 @@ use Rattle.graph_model.specs.Lists.{has}
 use Rattle.hierarchy_build.specs.declared.numbering.Owner.{Owner}
 use Rattle.op_model.specs.Labels.{node}
 use Rattle.op_model.specs.Valid.{IsAscending}
-use Rattle.plain_hierarchy.specs.Ingest.{ingested}
+use Rattle.op_model.specs.Ingest.{ingested}
 use Rattle.hierarchy_build.specs.declared.numbering.Made.{Made}
 use Rattle.hierarchy_build.specs.Numbers.{AreByChunk, IsOwn, OfSpent, node_of, numbered, overflow, told}
 use Rattle.hierarchy_build.proofs.LayerNodes.{small_keys, few_keys, nodes_told, nodes_are, nodes_ids, ids_ascend, ids_rise, nodes_own, nodes_each, spent_is, labels_fit}

@@ -3,7 +3,7 @@ use Rattle.std.specs.List.{All}
 use Rattle.op_model.specs.declared.Dataset.{Dataset}
 use Rattle.op_model.specs.declared.Base.{Base}
 use Rattle.op_model.specs.Valid.{IsBase, IsDataset}
-use Rattle.plain_hierarchy.specs.Ingest.{ingested}
+use Rattle.op_model.specs.Ingest.{ingested}
 use Rattle.layer_laws.specs.Building.{AreLeastLeaves}
 use Rattle.hierarchy_build.specs.Pairs.{AreEdges}
 use Rattle.hierarchy_build.proofs.Joining.{pairs_below, risen, for_ok}

@@ -3,7 +3,7 @@ use Rattle.op_model.specs.declared.Dataset.{Dataset}
 use Rattle.op_model.specs.declared.Base.{Base}
 use Rattle.op_model.specs.Chunks.{top}
 use Rattle.op_model.specs.Samples.{base, data_a}
-use Rattle.plain_hierarchy.specs.Ingest.{ingested}
+use Rattle.op_model.specs.Ingest.{ingested}
 use Rattle.plain_hierarchy.proofs.Samples.{base_of, dataset_of}
 use Rattle.hierarchy_build.specs.declared.layers.Layer.{Layer}
 use Rattle.hierarchy_build.specs.Layers.{AreLayers}
