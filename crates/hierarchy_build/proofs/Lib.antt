@@ -1,4 +1,5 @@
 pub mod Placing
+pub mod Pushes
 pub mod Joining
 pub mod Steps
 pub mod Grouping

@@ -3,7 +3,7 @@
 use node_ids::NodeId;
 
 /// Why a base's layers aren't built.
-#[derive(Clone, Copy, PartialEq, Eq, Debug, Drop)]
+#[derive(Clone, Copy, Drop)]
 pub enum LayersError {
     /// A chunk of the layer has more nodes than its ids have numbers. It is the first such chunk, by
     /// layers and then by ids.

@@ -16,7 +16,7 @@ use pcg_base::NoMemory;
 use std::alloc::Global;
 
 /// An edge between places of the base's list of supervoxels.
-#[derive(Clone, Copy, PartialEq, Eq, Debug, Drop)]
+#[derive(Clone, Copy, Drop)]
 pub struct PlacedEdge {
     /// The place of the lesser end.
     pub lesser: u32,

@@ -21,7 +21,7 @@ use pcg_base::NoMemory;
 use std::alloc::Global;
 
 /// A node of a layer.
-#[derive(Clone, Copy, PartialEq, Eq, Debug, Drop)]
+#[derive(Clone, Copy, Drop)]
 pub struct Made {
     /// The id: that of its chunk with its number in the chunk as segment.
     pub id: NodeId,

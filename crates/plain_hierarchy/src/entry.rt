@@ -7,7 +7,7 @@ ghost use Rattle.op_model.specs.Operations.{first_entry};
 ghost use Rattle.op_model.specs.Valid.{IsBase, IsDataset};
 ghost use Rattle.op_model.specs.Ingest.{ingested};
 
-use crate::components::{firsts, least};
+use crate::leaves::{firsts, least};
 use crate::lists::{ascending_ids, ids_of, push};
 use crate::nodes::{numbered, up_to};
 use node_ids::NodeId;

@@ -9,7 +9,7 @@ ghost use Rattle.op_model.specs.Ingest.{ingested};
 ghost use Rattle.plain_hierarchy.specs.Ingest.{up_to};
 
 use crate::chunks::members;
-use crate::components::{firsts, least};
+use crate::leaves::{firsts, least};
 use node_ids::NodeId;
 use op_model::chunks::{chunk, top};
 use op_model::{Base, Dataset, PathIds};

@@ -7,7 +7,7 @@ ghost use Rattle.op_model.specs.Records.{node_count, nodes_in, records};
 ghost use Rattle.op_model.specs.Valid.{IsBase, IsDataset};
 ghost use Rattle.op_model.specs.Ingest.{ingested};
 
-use crate::components::firsts;
+use crate::leaves::firsts;
 use crate::lists::{ascending_ids, edges_of, ids_of, push};
 use node_ids::NodeId;
 use op_model::chunks::{chunk, top};

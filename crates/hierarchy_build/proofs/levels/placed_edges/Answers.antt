@@ -3,7 +3,14 @@ use Rattle.std.proofs.lemmas.List.{take_all}
 use Rattle.base_rows.specs.declared.lists.BaseEdge.{BaseEdge}
 use Rattle.hierarchy_build.specs.Places.{placed}
 use Rattle.hierarchy_build.proofs.Leaves.{map_twice}
+use Rattle.hierarchy_build.proofs.Pushes.{map_pushed}
 use Rattle.hierarchy_build.proofs.levels.placed_edges.Goals as goal
+
+pub loop-end-preserved : goal.loop-end-preserved
+loop-end-preserved c =
+    let l = c.loop-end in
+    map_pushed (λ (x : BaseEdge). placed c.args.dataset.now c.args.base.now x.edge) c.args.ends.now l.end-index c.end-item.result c.placed.result l.list.items c.push.new.self.items
+    c.loop-end-test.true c.end-item.is c.placed.ensures l.invariant c.in-Ok.ensures.items
 
 pub returns : goal.returns
 returns c =

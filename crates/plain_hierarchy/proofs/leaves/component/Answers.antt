@@ -7,7 +7,7 @@ use Rattle.op_model.specs.Valid.{IsSupervoxel}
 use Rattle.op_model.proofs.LegalLemmas.{all_has}
 use Rattle.op_model.proofs.LabelLemmas.{in_members}
 use Rattle.plain_hierarchy.proofs.Ingests.{component_base}
-use Rattle.plain_hierarchy.proofs.components.component.Goals as goal
+use Rattle.plain_hierarchy.proofs.leaves.component.Goals as goal
 
 pub chunk-place-requires-clause-sv : goal.chunk-place-requires-clause-sv
 chunk-place-requires-clause-sv c = all_has (IsSupervoxel c.args.dataset.now) c.args.base.now.supervoxels c.args.sv c.requires.base.supervoxels c.requires.sv

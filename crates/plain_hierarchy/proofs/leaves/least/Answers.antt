@@ -1,7 +1,7 @@
 use Rattle.std.proofs.Common.{◌∙◌, ap}
 use Rattle.graph_model.specs.Lists.{head_or}
 use Rattle.op_model.specs.Labels.{least}
-use Rattle.plain_hierarchy.proofs.components.least.Goals as goal
+use Rattle.plain_hierarchy.proofs.leaves.least.Goals as goal
 
 pub returns : goal.returns
 unfolding least
