@@ -1,5 +1,5 @@
 -- The nodes of the first entry, over the base alone.
-use Rattle.std.proofs.Common.{◌≡◌, ℕ, ◌+◌, true, List, [], ◌∷◌, map, refl, sym, ◌∙◌, ap}
+use Rattle.std.proofs.Common.{◌≡◌, ℕ, ◌+◌, true, List, [], map, refl, sym, ◌∙◌, ap}
 use mathlib.Core.Path.{ap₂}
 use Rattle.std.proofs.Math.Nat.{zero-add}
 use Rattle.op_model.specs.declared.Dataset.{Dataset}
