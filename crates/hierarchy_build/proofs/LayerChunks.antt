@@ -21,13 +21,13 @@ use Rattle.record_rows.proofs.OnceLemmas.{all_has_self, ascending_lists, layers_
 use Rattle.op_model.specs.Ingest.{ingested}
 use Rattle.op_model.proofs.ChunkLemmas.{chunk_small, top_low}
 use Rattle.layer_laws.proofs.PlaceLemmas.{at_one}
-use Rattle.hierarchy_build.specs.declared.numbering.Made.{Made}
-use Rattle.hierarchy_build.specs.declared.layers.Layer.{Layer}
-use Rattle.hierarchy_build.specs.Numbers.{node_of}
-use Rattle.hierarchy_build.specs.Layers.{IsLayer, AreLayers}
+use Rattle.octree_layers.specs.declared.numbering.Made.{Made}
+use Rattle.octree_layers.specs.declared.layers.Layer.{Layer}
+use Rattle.octree_layers.specs.Numbers.{node_of}
+use Rattle.octree_layers.specs.Layers.{IsLayer, AreLayers}
 use Rattle.hierarchy_build.specs.Chunked.{fresh, chunks_behind, all_chunks}
-use Rattle.hierarchy_build.proofs.Leaves.{map_twice}
-use Rattle.hierarchy_build.proofs.Grouping.{map_flat}
+use Rattle.octree_layers.proofs.Leaves.{map_twice}
+use Rattle.octree_layers.proofs.Grouping.{map_flat}
 use Rattle.hierarchy_build.proofs.Fresh.{Run, fresh_runs}
 
 pub differ_ascends : (xs : List ℕ) → Differ (λ x y. x < y) xs → IsAscending xs

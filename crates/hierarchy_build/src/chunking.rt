@@ -7,14 +7,14 @@ ghost use Rattle.op_model.specs.Chunks.{top};
 ghost use Rattle.op_model.specs.Valid.{IsBase, IsDataset};
 ghost use Rattle.record_rows.specs.LogRows.{chunks};
 ghost use Rattle.op_model.specs.Ingest.{ingested};
-ghost use Rattle.hierarchy_build.specs.Layers.{all_nodes, AreLayers};
+ghost use Rattle.octree_layers.specs.Layers.{all_nodes, AreLayers};
 ghost use Rattle.hierarchy_build.specs.Chunked.{base_node, chunks_behind, count_behind, fresh, nodes_behind};
 
-use crate::layers::Layer;
-use crate::lists::ids_of;
-use crate::numbering::Made;
 use base_rows::BaseNode;
 use node_ids::NodeId;
+use octree_layers::Made;
+use octree_layers::layers::Layer;
+use octree_layers::lists::ids_of;
 use op_model::{Base, Dataset};
 use pcg_base::NoMemory;
 use std::alloc::Global;

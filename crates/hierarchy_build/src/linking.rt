@@ -6,13 +6,13 @@ ghost use Rattle.op_model.specs.declared.Dataset.{Dataset};
 ghost use Rattle.record_rows.specs.LogRows.{new_links};
 ghost use Rattle.base_rows.specs.Lists.{IsWithin, link_of};
 ghost use Rattle.op_model.specs.Ingest.{ingested};
-ghost use Rattle.hierarchy_build.specs.Layers.{all_nodes};
+ghost use Rattle.octree_layers.specs.Layers.{all_nodes};
 ghost use Rattle.hierarchy_build.specs.Links.{AreBuilt, AreByParent, AreLayerLinks, AreRanks, child_links};
 
-use crate::layers::{Layer, places};
-use crate::lists::ids_of;
-use crate::numbering::Made;
 use base_rows::BaseLink;
+use octree_layers::Made;
+use octree_layers::layers::{Layer, places};
+use octree_layers::lists::ids_of;
 use op_model::Base;
 use pcg_base::NoMemory;
 use std::alloc::Global;

@@ -1,6 +1,6 @@
 use Rattle.std.proofs.Common.{refl}
-use Rattle.hierarchy_build.specs.declared.numbering.Made.{Made}
-use Rattle.hierarchy_build.proofs.Pushes.{map_pushed}
+use Rattle.octree_layers.specs.declared.numbering.Made.{Made}
+use Rattle.octree_layers.proofs.Pushes.{map_pushed}
 use Rattle.hierarchy_build.proofs.linking.leasts.Goals as goal
 
 pub loop-node-preserved : goal.loop-node-preserved
