@@ -16,18 +16,18 @@ use Rattle.record_rows.proofs.DifferLemmas.{all_map}
 use Rattle.record_rows.specs.LogRows.{children_of, links_of, layer_nodes, new_links}
 use Rattle.base_rows.specs.declared.lists.BaseLink.{BaseLink}
 use Rattle.base_rows.specs.Lists.{IsWithin, link_of}
-use Rattle.plain_hierarchy.specs.Ingest.{ingested}
-use Rattle.hierarchy_build.specs.declared.numbering.Made.{Made}
-use Rattle.hierarchy_build.specs.declared.layers.Layer.{Layer}
-use Rattle.hierarchy_build.specs.Numbers.{leaves_at, node_of}
-use Rattle.hierarchy_build.specs.Layers.{IsLayer, AreLayers, all_nodes}
+use Rattle.op_model.specs.Ingest.{ingested}
+use Rattle.octree_layers.specs.declared.numbering.Made.{Made}
+use Rattle.octree_layers.specs.declared.layers.Layer.{Layer}
+use Rattle.octree_layers.specs.Numbers.{leaves_at, node_of}
+use Rattle.octree_layers.specs.Layers.{IsLayer, AreLayers, all_nodes}
 use Rattle.hierarchy_build.specs.Links.{AreBuilt, AreLayerLinks}
-use Rattle.hierarchy_build.proofs.AllLayers.{firsts_within}
+use Rattle.octree_layers.proofs.AllLayers.{firsts_within}
 use Rattle.hierarchy_build.proofs.Below.{children}
-use Rattle.hierarchy_build.proofs.Joining.{kept_all}
-use Rattle.hierarchy_build.proofs.Leaves.{filter_of_map, map_twice}
+use Rattle.octree_layers.proofs.Joining.{kept_all}
+use Rattle.octree_layers.proofs.Leaves.{filter_of_map, map_twice}
 use Rattle.hierarchy_build.proofs.Linked.{layer_linked, layer_within, map_all_same}
-use Rattle.hierarchy_build.proofs.Steps.{none_left}
+use Rattle.octree_layers.proofs.Steps.{none_left}
 
 -- the links of layers one behind the other, of the first of them with these children
 abbrev pub AreLinks : ℕ → List ℕ → ℕ → ℕ → List Layer → List BaseLink → Type 0

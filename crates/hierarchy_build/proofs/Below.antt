@@ -25,14 +25,14 @@ use Rattle.layer_laws.proofs.StepLemmas.{leaves_iff, leaves_above, joined_known}
 use Rattle.layer_laws.proofs.OrderLemmas.{get_has}
 use Rattle.layer_laws.proofs.PlaceLemmas.{at_one}
 use Rattle.layer_laws.proofs.BuildLemmas.{leaf_in, leaf_same}
-use Rattle.plain_hierarchy.specs.Ingest.{ingested}
-use Rattle.plain_hierarchy.proofs.Places.{top_low}
-use Rattle.hierarchy_build.specs.declared.numbering.Made.{Made}
-use Rattle.hierarchy_build.specs.declared.layers.Layer.{Layer}
-use Rattle.hierarchy_build.specs.Numbers.{IsOwn, leaves_at}
-use Rattle.hierarchy_build.specs.Layers.{IsLayer}
+use Rattle.op_model.specs.Ingest.{ingested}
+use Rattle.op_model.proofs.ChunkLemmas.{top_low}
+use Rattle.octree_layers.specs.declared.numbering.Made.{Made}
+use Rattle.octree_layers.specs.declared.layers.Layer.{Layer}
+use Rattle.octree_layers.specs.Numbers.{IsOwn, leaves_at}
+use Rattle.octree_layers.specs.Layers.{IsLayer}
 use Rattle.hierarchy_build.specs.Children.{ChildrenLead}
-use Rattle.hierarchy_build.proofs.Leaves.{range_in}
+use Rattle.octree_layers.proofs.Leaves.{range_in}
 
 all_ids : (i : ℕ) (ms : List Made) → AllByRecursion (λ x. i < x) (map (λ (m : Made). m.id) ms) → AllByRecursion (λ (m : Made). i < m.id) ms
 all_ids i [] a = tt

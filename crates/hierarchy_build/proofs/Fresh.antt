@@ -5,9 +5,9 @@ use Rattle.std.proofs.lemmas.List.{drop_more}
 use Rattle.std.proofs.lemmas.Bool.{ne_eqb, eqb-true}
 use Rattle.record_rows.proofs.DifferLemmas.{Differ}
 use Rattle.base_rows.specs.declared.lists.BaseNode.{BaseNode}
-use Rattle.hierarchy_build.specs.declared.numbering.Made.{Made}
+use Rattle.octree_layers.specs.declared.numbering.Made.{Made}
 use Rattle.hierarchy_build.specs.Chunked.{fresh, chunks_behind, count_behind, base_node, nodes_behind}
-use Rattle.hierarchy_build.proofs.Steps.{none_left}
+use Rattle.octree_layers.proofs.Steps.{none_left}
 
 -- where nothing is left
 pub behind_end : {X : Type 0} (done more whole : List X) → more ≡ [] → done ++ more ≡ whole → done ≡ whole

@@ -8,7 +8,7 @@ use Rattle.op_model.specs.declared.Base.{Base}
 use Rattle.graph_model.specs.Lists.{has}
 use Rattle.op_model.specs.Chunks.{chunk, members, layers, layers_from, top}
 use Rattle.op_model.specs.Labels.{least, is_new, is_empty, new_among}
-use Rattle.op_model.specs.Valid.{IsDataset, IsBase, IsAscending, IsSupervoxel}
+use Rattle.op_model.specs.Valid.{IsDataset, IsBase, IsAscending}
 use Rattle.graph_model.proofs.ListLemmas.{filter_has, has_none}
 use Rattle.op_model.proofs.LabelLemmas.{least_in, least_component, least_same}
 use Rattle.base_rows.specs.Lists.{IsOnce}
@@ -18,16 +18,16 @@ use Rattle.record_rows.proofs.BaseRows.{chunks_ascend}
 use Rattle.record_rows.proofs.DifferLemmas.{Differ, all_more, all_each, all_map, all_both, all_flat}
 use Rattle.record_rows.proofs.LinkLemmas.{all_ascending, of_component}
 use Rattle.record_rows.proofs.OnceLemmas.{all_has_self, ascending_lists, layers_from_differ, least_all}
-use Rattle.plain_hierarchy.specs.Ingest.{ingested}
-use Rattle.plain_hierarchy.proofs.Places.{chunk_small, top_low}
+use Rattle.op_model.specs.Ingest.{ingested}
+use Rattle.op_model.proofs.ChunkLemmas.{chunk_small, top_low}
 use Rattle.layer_laws.proofs.PlaceLemmas.{at_one}
-use Rattle.hierarchy_build.specs.declared.numbering.Made.{Made}
-use Rattle.hierarchy_build.specs.declared.layers.Layer.{Layer}
-use Rattle.hierarchy_build.specs.Numbers.{node_of}
-use Rattle.hierarchy_build.specs.Layers.{IsLayer, AreLayers}
+use Rattle.octree_layers.specs.declared.numbering.Made.{Made}
+use Rattle.octree_layers.specs.declared.layers.Layer.{Layer}
+use Rattle.octree_layers.specs.Numbers.{node_of}
+use Rattle.octree_layers.specs.Layers.{IsLayer, AreLayers}
 use Rattle.hierarchy_build.specs.Chunked.{fresh, chunks_behind, all_chunks}
-use Rattle.hierarchy_build.proofs.Leaves.{map_twice}
-use Rattle.hierarchy_build.proofs.Grouping.{map_flat}
+use Rattle.octree_layers.proofs.Leaves.{map_twice}
+use Rattle.octree_layers.proofs.Grouping.{map_flat}
 use Rattle.hierarchy_build.proofs.Fresh.{Run, fresh_runs}
 
 pub differ_ascends : (xs : List ℕ) → Differ (λ x y. x < y) xs → IsAscending xs
@@ -57,7 +57,7 @@ module _ (d : Dataset) (b : Base) (valid : IsDataset d) (base : IsBase d b) wher
       (all_flat (layer_chunks d b) (λ c. (0 ≤ c) × (c < 2 ^ 62)) (layers d)
       (all_more (λ l. (2 ≤ l) × (l < 2 + (top d - 1))) (λ l. AllByRecursion (λ c. (0 ≤ c) × (c < 2 ^ 62)) (layer_chunks d b l)) (layers d)
       (λ l p. all_ascending (λ c. (0 ≤ c) × (c < 2 ^ 62)) (map (chunk d l) b.supervoxels) (all_map (chunk d l) (λ c. (0 ≤ c) × (c < 2 ^ 62)) b.supervoxels
-      (all_more (IsSupervoxel d) (λ v. (0 ≤ chunk d l v) × (chunk d l v < 2 ^ 62)) b.supervoxels (λ v s. (omega arith, chunk_small d valid l (let t = top_low d in let q = p.1 in let two = p.0 in omega (arith, t, q, two)) v s)) base.supervoxels)))
+      (all_each (λ v. (0 ≤ chunk d l v) × (chunk d l v < 2 ^ 62)) b.supervoxels (λ v. (omega arith, chunk_small d valid.layout l (let t = top_low d in let q = p.1 in let two = p.0 in omega (arith, t, q, two)) v)))))
       (layers_from_differ 2 (top d - 1)).0))
       (chunks_ascend d b valid base)
 

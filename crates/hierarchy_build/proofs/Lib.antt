@@ -1,15 +1,7 @@
-pub mod Placing
-pub mod Joining
-pub mod Steps
-pub mod Grouping
-pub mod Leaves
-pub mod LayerNodes
-pub mod AllLayers
 pub mod Below
 pub mod Fresh
 pub mod LayerChunks
 pub mod PlacedNodes
-pub mod EdgeOrder
 pub mod Ranking
 pub mod Linked
 pub mod AllLinks

@@ -17,15 +17,15 @@ use Rattle.record_rows.proofs.OnceLemmas.{all_has_self}
 use Rattle.base_rows.specs.declared.lists.BaseLink.{BaseLink}
 use Rattle.base_rows.specs.Lists.{IsWithin, link_of}
 use Rattle.layer_laws.proofs.PlaceLemmas.{at_one}
-use Rattle.plain_hierarchy.specs.Ingest.{ingested}
-use Rattle.hierarchy_build.specs.declared.numbering.Made.{Made}
-use Rattle.hierarchy_build.specs.declared.layers.Layer.{Layer}
-use Rattle.hierarchy_build.specs.Numbers.{leaves_at, node_of}
-use Rattle.hierarchy_build.specs.Layers.{IsLayer}
+use Rattle.op_model.specs.Ingest.{ingested}
+use Rattle.octree_layers.specs.declared.numbering.Made.{Made}
+use Rattle.octree_layers.specs.declared.layers.Layer.{Layer}
+use Rattle.octree_layers.specs.Numbers.{leaves_at, node_of}
+use Rattle.octree_layers.specs.Layers.{IsLayer}
 use Rattle.hierarchy_build.specs.Links.{AreLayerLinks, child_link, child_links}
-use Rattle.hierarchy_build.proofs.Grouping.{grouped, map_flat}
-use Rattle.hierarchy_build.proofs.Leaves.{filter_of_map, map_twice, whole, range_in}
-use Rattle.hierarchy_build.proofs.Steps.{range_more}
+use Rattle.octree_layers.proofs.Grouping.{grouped, map_flat}
+use Rattle.octree_layers.proofs.Leaves.{filter_of_map, map_twice, whole, range_in}
+use Rattle.octree_layers.proofs.Steps.{range_more}
 
 pub range_step : {Y : Type 0} (f : ℕ → Y) (n : ℕ) (done more : List Y) (y : Y) → done ≡ map f (range_with_len 0 n) → more ≡ done ++ y ∷ [] → y ≡ f n → more ≡ map f (range_with_len 0 (n + 1))
 range_step f n done more y e m q =

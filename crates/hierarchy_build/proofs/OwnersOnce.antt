@@ -21,7 +21,7 @@ use Rattle.record_rows.proofs.Listings.{nodes_of}
 use Rattle.record_rows.proofs.NodeOrder.{layer_made}
 use Rattle.record_rows.proofs.OnceLemmas.{ascending_differ, layers_low, nodes_once}
 use Rattle.base_rows.specs.Lists.{IsOnce}
-use Rattle.plain_hierarchy.specs.Ingest.{ingested}
+use Rattle.op_model.specs.Ingest.{ingested}
 
 abbrev pub Other : ℕ → ℕ → Type 0
 Other i j = i ≡ j → ⊥

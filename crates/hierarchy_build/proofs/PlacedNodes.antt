@@ -14,13 +14,13 @@ use Rattle.record_rows.specs.Rows.{Node}
 use Rattle.record_rows.specs.LogRows.{chunks}
 use Rattle.base_rows.specs.declared.lists.BaseNode.{BaseNode}
 use Rattle.base_rows.specs.Lists.{IsNode, AreNodes}
-use Rattle.plain_hierarchy.specs.Ingest.{ingested}
-use Rattle.hierarchy_build.specs.declared.numbering.Made.{Made}
-use Rattle.hierarchy_build.specs.declared.layers.Layer.{Layer}
-use Rattle.hierarchy_build.specs.Numbers.{leaves_at, node_of, told, told_node}
-use Rattle.hierarchy_build.specs.Layers.{IsLayer, AreLayers, all_nodes}
+use Rattle.op_model.specs.Ingest.{ingested}
+use Rattle.octree_layers.specs.declared.numbering.Made.{Made}
+use Rattle.octree_layers.specs.declared.layers.Layer.{Layer}
+use Rattle.octree_layers.specs.Numbers.{leaves_at, node_of, told, told_node}
+use Rattle.octree_layers.specs.Layers.{IsLayer, AreLayers, all_nodes}
 use Rattle.hierarchy_build.specs.Chunked.{fresh, chunks_behind, all_chunks, base_node, nodes_behind, all_behind}
-use Rattle.hierarchy_build.proofs.Steps.{none_left}
+use Rattle.octree_layers.proofs.Steps.{none_left}
 use Rattle.hierarchy_build.proofs.Fresh.{fresh_few, behind_end}
 use Rattle.hierarchy_build.proofs.LayerChunks.{chunks_are, made_some}
 

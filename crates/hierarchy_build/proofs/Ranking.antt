@@ -6,7 +6,7 @@ use Rattle.std.proofs.lemmas.Bool.{cases_eq}
 use Rattle.graph_model.specs.Lists.{has}
 use Rattle.graph_model.proofs.ListLemmas.{has_cases, has_none}
 use Rattle.op_model.proofs.LinkLemmas.{append_cases}
-use Rattle.hierarchy_build.specs.declared.numbering.Made.{Made}
+use Rattle.octree_layers.specs.declared.numbering.Made.{Made}
 use Rattle.hierarchy_build.specs.Links.{AreRanks}
 
 pub no_ranks : (places : ℕ) (ranks : List ℕ) → ranks ≡ replicate places 0 → AreRanks places [] ranks

@@ -7,7 +7,7 @@ use Rattle.op_model.proofs.Opened.{definitions}
 use Rattle.record_rows.specs.Rows.{Node}
 use Rattle.record_rows.specs.LogRows.{new_nodes}
 use Rattle.record_rows.proofs.Opened.{row_definitions}
-use Rattle.plain_hierarchy.specs.Ingest.{ingested}
+use Rattle.op_model.specs.Ingest.{ingested}
 
 five : length (new_nodes data_a base (ingested data_a base 0) 0) ≡ 5
 unfolding definitions row_definitions

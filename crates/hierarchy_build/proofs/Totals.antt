@@ -20,13 +20,12 @@ use Rattle.record_rows.proofs.BaseCounts.{chunks_length}
 use Rattle.record_rows.proofs.DifferLemmas.{all_each, all_more}
 use Rattle.record_rows.proofs.OnceLemmas.{all_has_self, ascending_lists}
 use Rattle.record_rows.proofs.SumLemmas.{length-flat, parted, total_ones, total_same}
-use Rattle.plain_hierarchy.specs.Ingest.{ingested}
-use Rattle.plain_hierarchy.proofs.Counts.{records_ingested, sum_told}
-use Rattle.plain_hierarchy.proofs.Ingests.{new_firsts}
-use Rattle.plain_hierarchy.proofs.Places.{top_low as top_high}
-use Rattle.hierarchy_build.specs.declared.layers.Layer.{Layer}
-use Rattle.hierarchy_build.specs.Numbers.{node_of}
-use Rattle.hierarchy_build.specs.Layers.{IsLayer, AreLayers, all_nodes}
+use Rattle.op_model.specs.Ingest.{ingested}
+use Rattle.layer_laws.proofs.IngestLemmas.{new_firsts, records_ingested, sum_told}
+use Rattle.op_model.proofs.ChunkLemmas.{top_low as top_high}
+use Rattle.octree_layers.specs.declared.layers.Layer.{Layer}
+use Rattle.octree_layers.specs.Numbers.{node_of}
+use Rattle.octree_layers.specs.Layers.{IsLayer, AreLayers, all_nodes}
 use Rattle.hierarchy_build.specs.Links.{AreBuilt}
 use Rattle.hierarchy_build.proofs.AllLinks.{layer_at, nodes_first}
 

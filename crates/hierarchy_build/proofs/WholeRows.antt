@@ -25,16 +25,16 @@ use Rattle.std.specs.Result.{IfOk}
 use Rattle.base_rows.specs.BaseRows.{all_rows, linked_rows, noded_rows, edged_rows, owner_rows, ids_of}
 use Rattle.base_rows.proofs.LinkBegin.{before_nodes}
 use Rattle.base_rows.proofs.NodeSteps.{node_ids}
-use Rattle.plain_hierarchy.specs.Ingest.{ingested}
-use Rattle.hierarchy_build.specs.declared.layers.Layer.{Layer}
+use Rattle.op_model.specs.Ingest.{ingested, IsFirstSpent}
+use Rattle.octree_layers.specs.declared.layers.Layer.{Layer}
 use Rattle.hierarchy_build.specs.declared.errors.BuildError.{BuildError}
-use Rattle.hierarchy_build.specs.declared.errors.LayersError.{LayersError}
-use Rattle.hierarchy_build.specs.declared.errors.LayersError.TheVariants as layers
-use Rattle.hierarchy_build.specs.Layers.{all_nodes, IsFirstSpent}
-use Rattle.hierarchy_build.specs.Numbers.{OfSpent}
+use Rattle.octree_layers.specs.declared.errors.LayersError.{LayersError}
+use Rattle.octree_layers.specs.declared.errors.LayersError.TheVariants as layers
+use Rattle.octree_layers.specs.Layers.{all_nodes}
+use Rattle.octree_layers.specs.Numbers.{OfSpent}
 use Rattle.hierarchy_build.specs.Links.{AreBuilt}
 use Rattle.hierarchy_build.specs.Built.{AreLists, IsRefused, Tells}
-use Rattle.hierarchy_build.proofs.AllLayers.{nodes_all}
+use Rattle.octree_layers.proofs.AllLayers.{nodes_all}
 use Rattle.hierarchy_build.proofs.LayerChunks.{chunks_once}
 use Rattle.hierarchy_build.proofs.OwnersOnce.{owners_once}
 

@@ -11,13 +11,13 @@ use Rattle.record_rows.specs.LogRows.{chunks, new_links}
 use Rattle.base_rows.specs.declared.lists.BaseLists.{BaseLists}
 use Rattle.base_rows.specs.Lists.{AreNodes, IsPlaced, IsWithin, link_of}
 use Rattle.base_rows.specs.BaseRows.{ids_of}
-use Rattle.plain_hierarchy.specs.Ingest.{ingested}
-use Rattle.hierarchy_build.specs.declared.layers.Layer.{Layer}
+use Rattle.op_model.specs.Ingest.{ingested, IsFirstSpent}
+use Rattle.octree_layers.specs.declared.layers.Layer.{Layer}
 use Rattle.hierarchy_build.specs.declared.errors.BuildError.{BuildError}
 use Rattle.hierarchy_build.specs.declared.errors.BuildError.TheVariants.{IdsSpent, TooSmall, NoMemory}
-use Rattle.hierarchy_build.specs.declared.errors.LayersError.{LayersError}
-use Rattle.hierarchy_build.specs.declared.errors.LayersError.TheVariants as layers
-use Rattle.hierarchy_build.specs.Layers.{all_nodes, IsFirstSpent}
+use Rattle.octree_layers.specs.declared.errors.LayersError.{LayersError}
+use Rattle.octree_layers.specs.declared.errors.LayersError.TheVariants as layers
+use Rattle.octree_layers.specs.Layers.{all_nodes}
 
 -- these are the chunks, edges, nodes and links of the base's first entry, by their places
 pub record AreLists (d : Dataset) (b : Base) (ls : List Layer) (x : BaseLists) : Type 0 where

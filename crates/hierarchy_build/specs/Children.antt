@@ -6,11 +6,11 @@ use Rattle.op_model.specs.declared.Base.{Base}
 use Rattle.op_model.specs.Chunks.{top}
 use Rattle.op_model.specs.Valid.{IsBase, IsDataset}
 use Rattle.record_rows.specs.LogRows.{children_of}
-use Rattle.plain_hierarchy.specs.Ingest.{ingested}
+use Rattle.op_model.specs.Ingest.{ingested}
 use Rattle.layer_laws.specs.Building.{at}
-use Rattle.hierarchy_build.specs.declared.layers.Layer.{Layer}
-use Rattle.hierarchy_build.specs.Numbers.{leaves_at}
-use Rattle.hierarchy_build.specs.Layers.{IsLayer}
+use Rattle.octree_layers.specs.declared.layers.Layer.{Layer}
+use Rattle.octree_layers.specs.Numbers.{leaves_at}
+use Rattle.octree_layers.specs.Layers.{IsLayer}
 
 -- The children of a node above layer 2 are the nodes of the layer below whose least leaf leads to that of the node, in their order.
 abbrev pub ChildrenLead : Type 0

@@ -3,8 +3,8 @@ use Rattle.std.specs.Prelude.{ℕ, ◌+◌, ◌-◌, ◌==◌, if◌then◌else�
 use Rattle.std.specs.List.{flat_map}
 use Rattle.base_rows.specs.declared.lists.BaseNode.{BaseNode}
 use Rattle.layer_laws.specs.Building.{at}
-use Rattle.hierarchy_build.specs.declared.numbering.Made.{Made}
-use Rattle.hierarchy_build.specs.declared.layers.Layer.{Layer}
+use Rattle.octree_layers.specs.declared.numbering.Made.{Made}
+use Rattle.octree_layers.specs.declared.layers.Layer.{Layer}
 
 -- the numbers that differ from the one before them, behind a last one
 unfoldable pub fresh : ℕ → List ℕ → List ℕ

@@ -1,7 +1,3 @@
-pub mod Places
-pub mod Pairs
-pub mod Numbers
-pub mod Layers
 pub mod Children
 pub mod Chunked
 pub mod Links

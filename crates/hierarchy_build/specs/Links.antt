@@ -8,10 +8,10 @@ use Rattle.graph_model.specs.Lists.{has}
 use Rattle.op_model.specs.Chunks.{top}
 use Rattle.op_model.specs.Valid.{IsBase, IsDataset}
 use Rattle.base_rows.specs.declared.lists.BaseLink.{BaseLink}
-use Rattle.plain_hierarchy.specs.Ingest.{ingested}
+use Rattle.op_model.specs.Ingest.{ingested}
 use Rattle.layer_laws.specs.Building.{at}
-use Rattle.hierarchy_build.specs.declared.layers.Layer.{Layer}
-use Rattle.hierarchy_build.specs.Layers.{AreLayers}
+use Rattle.octree_layers.specs.declared.layers.Layer.{Layer}
+use Rattle.octree_layers.specs.Layers.{AreLayers}
 
 -- these are all layers of the base at its first entry
 pub record AreBuilt (d : Dataset) (b : Base) (ls : List Layer) : Type 0 where

@@ -5,13 +5,13 @@ ghost use Rattle.std.specs.List.{slice_get};
 ghost use Rattle.op_model.specs.declared.Dataset.{Dataset};
 ghost use Rattle.op_model.specs.Records.{records};
 ghost use Rattle.record_rows.specs.LogRows.{chunks};
-ghost use Rattle.plain_hierarchy.specs.Ingest.{ingested};
-ghost use Rattle.hierarchy_build.specs.declared.layers.Layer.{Layer};
-ghost use Rattle.hierarchy_build.specs.Layers.{all_nodes};
+ghost use Rattle.op_model.specs.Ingest.{ingested};
+ghost use Rattle.octree_layers.specs.declared.layers.Layer.{Layer};
+ghost use Rattle.octree_layers.specs.Layers.{all_nodes};
 ghost use Rattle.hierarchy_build.specs.Links.{AreBuilt};
 
-use crate::layers::Layer;
-use crate::lists::{edges_of, ids_of};
+use octree_layers::layers::Layer;
+use octree_layers::lists::{edges_of, ids_of};
 use op_model::Base;
 
 // how many nodes all layers have together

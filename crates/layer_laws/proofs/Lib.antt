@@ -9,3 +9,4 @@ pub mod RemakeLemmas
 pub mod RiseLemmas
 pub mod NodesLemmas
 pub mod FirstsLemmas
+pub mod IngestLemmas

@@ -10,7 +10,7 @@ use Rattle.record_rows.specs.LogRows.{rows_of}
 use Rattle.record_rows.specs.Readings.{Image}
 use Rattle.record_rows.proofs.BaseCounts.{counted}
 use Rattle.record_rows.proofs.TellLemmas.{length-words_of}
-use Rattle.plain_hierarchy.specs.Ingest.{ingested}
+use Rattle.op_model.specs.Ingest.{ingested}
 use Rattle.hierarchy_build.specs.declared.errors.BuildError.{BuildError}
 use Rattle.hierarchy_build.specs.Built.{IsFull}
 use Rattle.pcg_serve.specs.declared.ingest.Ingest.{Ingest}

@@ -5,7 +5,7 @@ ghost use Rattle.pcg_words.specs.Job.{HasRanges};
 ghost use Rattle.op_model.specs.Valid.{IsDataset};
 ghost use Rattle.table_ingest.specs.Bases.{Spells};
 ghost use Rattle.record_rows.specs.Readings.{Image};
-ghost use Rattle.plain_hierarchy.specs.Ingest.{ingested};
+ghost use Rattle.op_model.specs.Ingest.{ingested};
 ghost use Rattle.hierarchy_build.specs.declared.errors.BuildError.{BuildError as TheBuildError};
 ghost use Rattle.hierarchy_build.specs.Built.{IsFull};
 ghost use Rattle.pcg_serve.specs.Jobs.{dataset_of};

@@ -1,19 +1,13 @@
 -- The layers, and what is counted over them.
-use Rattle.std.proofs.Common.{◌≡◌, ℕ, zero, suc, ◌+◌, ◌-◌, ◌<◌, List, [], ◌∷◌, ◌++◌, length, map, refl, sym, ◌∙◌, ap, arith, add-one, take, get_or, append-nil}
+use Rattle.std.proofs.Common.{◌≡◌, ℕ, zero, suc, ◌+◌, ◌<◌, List, [], ◌∷◌, ◌++◌, length, map, sym, ◌∙◌, ap, arith, add-one, take, get_or, append-nil}
 use mathlib.Core.Path.{ap₂}
 use Rattle.std.specs.List.{flat_map}
 use Rattle.std.proofs.Math.ListN.{set}
 use Rattle.std.proofs.Math.Seq.{take-suc, take-suc-set}
 use Rattle.std.proofs.lemmas.List.{map-append}
 use Rattle.std.proofs.lemmas.Grind.{flat_map-append}
-use Rattle.op_model.specs.declared.Dataset.{Dataset}
-use Rattle.op_model.specs.declared.Base.{Base}
-use Rattle.op_model.specs.Chunks.{chunk, layers, layers_from, top}
-use Rattle.op_model.specs.Edges.{edges_after, put_changed}
-use Rattle.op_model.specs.Labels.{edges, component, least}
-use Rattle.op_model.specs.Operations.{ascending, first_entry}
-use Rattle.op_model.specs.Records.{total, records, base_records, node_count, root_count, chunk_count, nodes_in}
-use Rattle.plain_hierarchy.specs.Ingest.{ingested}
+use Rattle.op_model.specs.Chunks.{layers_from}
+use Rattle.op_model.specs.Records.{total}
 
 pub layers_more : (layer n : ℕ) → layers_from layer (suc n) ≡ layers_from layer n ++ (layer + n) ∷ []
 unfolding layers_from
@@ -48,13 +42,3 @@ pub map_next : (f : ℕ → ℕ) (xs : List ℕ) (i d : ℕ) (ys : List ℕ) (x 
 map_next f xs i d ys x l e q =
     ap₂ (λ zs z. zs ++ z ∷ []) e q
     ∙ (sym (map-append f (take i xs) (get_or xs i d ∷ [])) ∙ ap (map f) (sym (rw add-one (take-suc xs i d l))))
-
-pub sum_told : (s h e n r t i f m q : ℕ) → s ≡ t → h ≡ i → e ≡ f → n ≡ m → r ≡ q → 1 + s + h + e + n + (s + n - r) + 1 ≡ 1 + t + i + f + m + (t + m - q) + 1
-sum_told s h e n r t i f m q a b c d g = cc
-
-module _ (d : Dataset) (b : Base) (at : ℕ) where
-  -- the records of the first entry, whatever its time
-  pub records_ingested : 1 + length b.supervoxels + length (ascending (flat_map (λ layer. map (chunk d layer) b.supervoxels) (layers d))) + length b.edges + node_count d b (ingested d b 0)
-      + (length b.supervoxels + node_count d b (ingested d b 0) - nodes_in d b (ingested d b 0) (top d)) + 1 ≡ records d b (ingested d b at)
-  unfolding records base_records node_count root_count chunk_count nodes_in least component edges edges_after put_changed first_entry
-  records_ingested = refl

@@ -14,7 +14,7 @@ use Rattle.op_model.specs.Legal.{Legal, LabelsFit}
 use Rattle.op_model.specs.Operations.{first_entry}
 use Rattle.op_model.specs.Valid.{IsDataset}
 use Rattle.op_model.proofs.LabelLemmas.{label_used}
-use Rattle.plain_hierarchy.specs.Ingest.{ingested}
+use Rattle.op_model.specs.Ingest.{ingested}
 
 width_most : (f : LayoutForm) → IsLayout f → (l : ℕ) → width f l ≤ 16
 unfolding width

@@ -1,6 +1,6 @@
 pub mod Growing
-pub mod Places
 pub mod Ingests
 pub mod Counts
 pub mod Fitting
 pub mod Samples
+pub mod Orders

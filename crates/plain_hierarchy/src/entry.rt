@@ -5,15 +5,14 @@ ghost use Rattle.op_model.specs.declared.Asked.TheVariants as Asked;
 ghost use Rattle.op_model.specs.Labels.{root};
 ghost use Rattle.op_model.specs.Operations.{first_entry};
 ghost use Rattle.op_model.specs.Valid.{IsBase, IsDataset};
-ghost use Rattle.plain_hierarchy.specs.Ingest.{ingested};
+ghost use Rattle.op_model.specs.Ingest.{ingested};
 
-use crate::chunks::{chunk, top};
-use crate::components::{firsts, least};
-use crate::lists::{ids_of, push};
+use crate::leaves::{firsts, least};
+use crate::lists::{ascending_ids, ids_of, push};
 use crate::nodes::{numbered, up_to};
 use node_ids::NodeId;
+use op_model::chunks::{chunk, top};
 use op_model::{Asked, Base, ChangedPairs, Dataset, Entry, Ids};
-use ordered_ids::ascending_ids;
 use pcg_base::NoMemory;
 use std::alloc::Global;
 
@@ -70,6 +69,6 @@ pub fn first_entry(
     ensures { IfOk result (λ entry. entry ≡ first_entry dataset.now base.now at) }
 {
     let all = roots(alloc, dataset, base)?;
-    let made = ascending_ids(alloc, all.as_slice())?;
+    let made = ascending_ids(all);
     Ok(ingest(alloc, at, made))
 }

@@ -6,9 +6,9 @@
 //! is the body that faster ones are compared with. An octree of components is from Dorkenwald et al. 2022.
 //!
 //! - `lists`: lists of ids.
-//! - `chunks`: the chunks of supervoxels, and what lies in them.
+//! - `chunks`: the supervoxels of chunks.
 //! - `growth`: the search in breadth inside a chunk.
-//! - `components`: the supervoxels of a node, and the least of them.
+//! - `leaves`: the supervoxels of a node, and the least of them.
 //! - `nodes`: the nodes of supervoxels, their roots and paths.
 //! - `entry`: the entry of the ingest.
 //! - `records`: how many records the base takes.
@@ -16,18 +16,18 @@
 #![tactic(auto)]
 
 mod chunks;
-mod components;
 mod entry;
 mod growth;
 mod laws;
+mod leaves;
 mod lists;
 mod nodes;
 mod records;
 #[cfg(test)]
 mod tests;
 
-pub use components::component;
 pub use entry::first_entry;
 pub use laws::small_bases_are_legal;
+pub use leaves::component;
 pub use nodes::{node, path, root};
 pub use records::record_count;

@@ -1,8 +1,9 @@
-//! Lists of ids that grow.
+//! Lists of ids.
 
 ghost use Rattle.std.specs.Prelude.{◌≡◌, ◌∷◌, ◌++◌, List, [], IfOk, OnOk};
 ghost use Rattle.std.specs.List.{filter};
 ghost use Rattle.graph_model.specs.Lists.{has, head_or};
+ghost use Rattle.op_model.specs.Operations.{ascending};
 
 use node_ids::NodeId;
 use op_model::pairs::has_id;
@@ -56,4 +57,14 @@ pub fn head_or(ids: &[NodeId], other: NodeId) -> NodeId
         [] => other,
         [first, ..] => *first,
     }
+}
+
+// the same ids ascending, each once
+pub fn ascending_ids(ids: Vec<NodeId>) -> Vec<NodeId>
+    ensures { result.items ≡ ascending ids.items }
+{
+    let mut list = ids;
+    list.sort_unstable();
+    list.dedup();
+    list
 }

@@ -5,11 +5,13 @@ ghost use Rattle.graph_model.specs.Lists.{has};
 ghost use Rattle.op_model.specs.Chunks.{top};
 ghost use Rattle.op_model.specs.Labels.{node, path, root};
 ghost use Rattle.op_model.specs.Valid.{IsBase, IsDataset};
-ghost use Rattle.plain_hierarchy.specs.Ingest.{ingested, up_to};
+ghost use Rattle.op_model.specs.Ingest.{ingested};
+ghost use Rattle.plain_hierarchy.specs.Ingest.{up_to};
 
-use crate::chunks::{chunk, members, top};
-use crate::components::{firsts, least};
+use crate::chunks::members;
+use crate::leaves::{firsts, least};
 use node_ids::NodeId;
+use op_model::chunks::{chunk, top};
 use op_model::{Base, Dataset, PathIds};
 use pcg_base::NoMemory;
 use std::alloc::Global;

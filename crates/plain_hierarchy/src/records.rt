@@ -5,14 +5,13 @@ ghost use Rattle.std.specs.List.{flat_map};
 ghost use Rattle.op_model.specs.Chunks.{chunk, layers, top};
 ghost use Rattle.op_model.specs.Records.{node_count, nodes_in, records};
 ghost use Rattle.op_model.specs.Valid.{IsBase, IsDataset};
-ghost use Rattle.plain_hierarchy.specs.Ingest.{ingested};
+ghost use Rattle.op_model.specs.Ingest.{ingested};
 
-use crate::chunks::{chunk, top};
-use crate::components::firsts;
-use crate::lists::{edges_of, ids_of, push};
+use crate::leaves::firsts;
+use crate::lists::{ascending_ids, edges_of, ids_of, push};
 use node_ids::NodeId;
+use op_model::chunks::{chunk, top};
 use op_model::{Base, Dataset};
-use ordered_ids::ascending_ids;
 use pcg_base::NoMemory;
 use std::alloc::Global;
 
@@ -87,7 +86,7 @@ pub fn record_count(alloc: Global, dataset: &Dataset, base: &Base) -> Result<u64
     let svs = ids_of(&base.supervoxels).len() as u64;
     let edges = edges_of(&base.edges).len() as u64;
     let all = chunks(alloc, dataset, base)?;
-    let held = ascending_ids(alloc, all.as_slice())?.len() as u64;
+    let held = ascending_ids(all).len() as u64;
     let nodes = node_count(alloc, dataset, base)?;
     let roots = nodes_in(alloc, dataset, base, top(dataset))?;
     Ok(1 + svs + held + edges + nodes + (svs + nodes - roots) + 1)

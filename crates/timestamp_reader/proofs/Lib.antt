@@ -15,3 +15,4 @@ pub mod ReadPrefixes
 pub mod MadeRoots
 pub mod Refused
 pub mod ReplySamples
+pub mod Ascents

@@ -10,6 +10,7 @@
 //! - `nodes`: the nodes of a supervoxel at a prefix
 //! - `node_leaves`: the supervoxels of a node
 //! - `roots`: the roots of pairs that an entry changed
+//! - `ordering`: ids put into ascending lists
 //! - `entries`: whole entries of the log
 //! - `laws`: what holds of the records' leaves, the contract of a function that does nothing
 #![tactic(auto)]
@@ -24,6 +25,7 @@ pub mod laws;
 mod leaf_tests;
 mod node_leaves;
 mod nodes;
+mod ordering;
 mod roots;
 #[cfg(test)]
 mod tests;

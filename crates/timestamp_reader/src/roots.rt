@@ -13,9 +13,9 @@ ghost use Rattle.record_rows.specs.Readings.{ParentImage};
 ghost use Rattle.timestamp_reader.specs.Places.{AreKnown, IsReadable};
 
 use crate::nodes::root_at;
+use crate::ordering::put;
 use node_ids::NodeId;
 use op_model::{Changed, ChangedPairs, Ids};
-use ordered_ids::put;
 use pcg_base::{NoMemory, Words};
 use row_words::supervoxel;
 use std::alloc::Global;

@@ -1,4 +1,4 @@
-use Rattle.plain_hierarchy.specs.Ingest.{ingested}
+use Rattle.op_model.specs.Ingest.{ingested}
 use Rattle.record_rows.proofs.ImageFacts.{parent_image}
 use Rattle.bench_base.proofs.steps.time_build.Goals as goal
 

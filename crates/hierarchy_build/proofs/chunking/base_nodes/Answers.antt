@@ -1,11 +1,11 @@
 use Rattle.std.proofs.Common.{◌+◌, ◌<◌, length, ap, subst, sym, arith}
 use Rattle.std.specs.List.{All}
 use Rattle.std.proofs.lemmas.List.Elements.{All-from_recursion}
-use Rattle.plain_hierarchy.specs.Ingest.{ingested}
+use Rattle.op_model.specs.Ingest.{ingested}
 use Rattle.record_rows.specs.LogRows.{chunks}
 use Rattle.base_rows.specs.Lists.{AreNodes}
-use Rattle.hierarchy_build.specs.declared.numbering.Made.{Made}
-use Rattle.hierarchy_build.specs.Layers.{all_nodes, IsLayer}
+use Rattle.octree_layers.specs.declared.numbering.Made.{Made}
+use Rattle.octree_layers.specs.Layers.{all_nodes, IsLayer}
 use Rattle.hierarchy_build.proofs.LayerChunks.{made_some}
 use Rattle.hierarchy_build.proofs.PlacedNodes.{nodes_placed, layer_at, layer_more, nodes_left, chunks_within, all_behind-end}
 use Rattle.hierarchy_build.proofs.chunking.base_nodes.Goals as goal

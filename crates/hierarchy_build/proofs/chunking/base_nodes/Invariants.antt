@@ -1,5 +1,5 @@
 use Rattle.std.proofs.Common.{◌≡◌, ◌+◌, ◌≤◌, ◌++◌, length, drop}
-use Rattle.hierarchy_build.specs.Layers.{all_nodes}
+use Rattle.octree_layers.specs.Layers.{all_nodes}
 use Rattle.hierarchy_build.specs.Chunked.{all_behind}
 use Rattle.hierarchy_build.proofs.chunking.base_nodes.Given as goal
 

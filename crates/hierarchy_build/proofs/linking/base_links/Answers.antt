@@ -3,7 +3,7 @@ use Rattle.std.specs.List.{All, range_with_len}
 use Rattle.std.proofs.lemmas.List.{length-map}
 use Rattle.std.proofs.lemmas.List.FromFn.{length-range_with_len}
 use Rattle.base_rows.specs.declared.lists.BaseLink.{BaseLink}
-use Rattle.hierarchy_build.specs.declared.numbering.Made.{Made}
+use Rattle.octree_layers.specs.declared.numbering.Made.{Made}
 use Rattle.hierarchy_build.specs.Links.{AreLayerLinks}
 use Rattle.hierarchy_build.proofs.AllLinks.{AreLinks, base_linked, leasts_low, links_end, links_step, nodes_left, range_low, sound_layer}
 use Rattle.hierarchy_build.proofs.linking.base_links.Goals as goal
@@ -42,6 +42,28 @@ layer_links-requires-clause-places c =
     let k = s.count in
     let few = c.requires.few in
     omega (arith, k, few)
+
+pub layer_links-requires-clause-children : goal.layer_links-requires-clause-children
+layer_links-requires-clause-children c =
+    let i = c.loop-layer.invariant.children in
+    let p = c.loop-layer.invariant.parents in
+    let e = ap length c.deref.ensures.value in
+    let few = c.requires.few in
+    omega (arith, i, p, e, few)
+
+pub layer_links-requires-clause-parents : goal.layer_links-requires-clause-parents
+layer_links-requires-clause-parents c =
+    let left = nodes_left c.args.base.now c.args.layers.now c.loop-layer.layer-index c.layer-item.result c.loop-layer-test.true c.layer-item.is in
+    let p = c.loop-layer.invariant.parents in
+    let few = c.requires.few in
+    omega (arith, left, p, few)
+
+pub overflow_add-first_child : goal.overflow_add-first_child
+overflow_add-first_child c =
+    let p = c.loop-layer.invariant.parents in
+    let count = ap length c.ids_of.ensures in
+    let few = c.requires.few in
+    omega (arith, p, count, few)
 
 pub loop-layer-preserved : goal.loop-layer-preserved
 loop-layer-preserved c =

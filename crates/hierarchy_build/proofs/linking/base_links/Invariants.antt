@@ -1,7 +1,7 @@
 use Rattle.std.proofs.Common.{◌≡◌, ◌+◌, ◌<◌, List, ◌++◌, length, drop}
 use Rattle.std.specs.List.{All, range_with_len}
 use Rattle.base_rows.specs.declared.lists.BaseLink.{BaseLink}
-use Rattle.hierarchy_build.specs.Layers.{all_nodes}
+use Rattle.octree_layers.specs.Layers.{all_nodes}
 use Rattle.hierarchy_build.proofs.AllLinks.{AreLinks}
 use Rattle.hierarchy_build.proofs.linking.base_links.Given as goal
 

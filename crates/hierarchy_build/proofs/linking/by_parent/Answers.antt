@@ -1,7 +1,7 @@
 use Rattle.std.proofs.Common.{rules, refl}
 use Rattle.std.proofs.lemmas.List.Sorted.{answers_always, IsNonDecreasingBy-from_sort}
 use Rattle.base_rows.specs.declared.lists.BaseLink.{BaseLink}
-use Rattle.hierarchy_build.proofs.Steps.{kept_order}
+use Rattle.octree_layers.proofs.Steps.{kept_order}
 use Rattle.hierarchy_build.proofs.linking.by_parent.Goals as goal
 
 pub returns : goal.returns

@@ -1,5 +1,5 @@
 use Rattle.std.proofs.Common.{set, ap}
-use Rattle.hierarchy_build.specs.declared.numbering.Made.{Made}
+use Rattle.octree_layers.specs.declared.numbering.Made.{Made}
 use Rattle.hierarchy_build.proofs.Ranking.{no_ranks, ranks_more}
 use Rattle.hierarchy_build.proofs.linking.ranks.Goals as goal
 

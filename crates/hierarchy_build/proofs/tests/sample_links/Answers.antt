@@ -3,10 +3,10 @@ use Rattle.op_model.specs.declared.Dataset.{Dataset}
 use Rattle.op_model.specs.declared.Base.{Base}
 use Rattle.op_model.specs.Chunks.{top}
 use Rattle.op_model.specs.Samples.{base, data_a}
-use Rattle.plain_hierarchy.specs.Ingest.{ingested}
+use Rattle.op_model.specs.Ingest.{ingested}
 use Rattle.plain_hierarchy.proofs.Samples.{base_of, dataset_of}
-use Rattle.hierarchy_build.specs.declared.layers.Layer.{Layer}
-use Rattle.hierarchy_build.specs.Layers.{AreLayers}
+use Rattle.octree_layers.specs.declared.layers.Layer.{Layer}
+use Rattle.octree_layers.specs.Layers.{AreLayers}
 use Rattle.hierarchy_build.specs.Links.{AreBuilt}
 use Rattle.hierarchy_build.proofs.tests.sample_links.Goals as goal
 

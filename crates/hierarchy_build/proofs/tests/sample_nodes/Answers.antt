@@ -1,6 +1,6 @@
 use Rattle.std.proofs.Common.{◌∙◌, ap}
 use Rattle.plain_hierarchy.proofs.Samples.{base_of}
-use Rattle.hierarchy_build.specs.Layers.{all_nodes}
+use Rattle.octree_layers.specs.Layers.{all_nodes}
 use Rattle.hierarchy_build.proofs.SampleNodes.{few_nodes}
 use Rattle.hierarchy_build.proofs.tests.sample_nodes.Goals as goal
 

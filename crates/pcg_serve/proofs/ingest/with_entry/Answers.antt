@@ -1,7 +1,7 @@
 use Rattle.std.proofs.Common.{◌≡◌, ◌/◌, ◌∷◌, [], length, sym, ◌∙◌, ap, subst}
 use Rattle.op_model.specs.Operations.{first_entry}
 use Rattle.pcg_base.specs.declared.vec_words.VecWords.{VecWords}
-use Rattle.plain_hierarchy.specs.Ingest.{ingested}
+use Rattle.op_model.specs.Ingest.{ingested}
 use Rattle.pcg_serve.specs.declared.ingest.Ingest.{Ingest}
 use Rattle.pcg_serve.specs.Ingests.{AreWords}
 use Rattle.pcg_serve.proofs.Ingesting.{are_words, first_at, is_ingest}

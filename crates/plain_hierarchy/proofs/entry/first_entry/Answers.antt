@@ -5,5 +5,5 @@ use Rattle.plain_hierarchy.proofs.entry.first_entry.Goals as goal
 
 pub returns : goal.returns
 returns c =
-    c.ingest.ensures ∙ entry_ingested c.args.dataset.now c.args.base.now c.args.at c.in_ok-made.made.items
-    (c.in_ok-made.ensures ∙ ap ascending (c.as_slice.ensures.value ∙ c.in_ok-all.ensures))
+    c.ingest.ensures ∙ entry_ingested c.args.dataset.now c.args.base.now c.args.at c.ascending_ids-made.result.items
+    (c.ascending_ids-made.ensures ∙ ap ascending c.in_ok-all.ensures)

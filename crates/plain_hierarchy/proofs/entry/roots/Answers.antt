@@ -2,7 +2,8 @@ use Rattle.std.proofs.Common.{◌≡◌, ◌<◌, ◌+◌, true, length, get_or,
 use Rattle.graph_model.specs.Lists.{has}
 use Rattle.graph_model.proofs.ListLemmas.{filter_length}
 use Rattle.op_model.specs.Labels.{root}
-use Rattle.plain_hierarchy.specs.Ingest.{ingested, firsts, up_to}
+use Rattle.op_model.specs.Ingest.{ingested}
+use Rattle.plain_hierarchy.specs.Ingest.{firsts, up_to}
 use Rattle.plain_hierarchy.proofs.Growing.{has_get}
 use Rattle.plain_hierarchy.proofs.Ingests.{root_told}
 use Rattle.plain_hierarchy.proofs.Counts.{map_next}

@@ -1,6 +1,6 @@
 use Rattle.std.proofs.Common.{◌≡◌, take, map}
 use Rattle.op_model.specs.Labels.{root}
-use Rattle.plain_hierarchy.specs.Ingest.{ingested}
+use Rattle.op_model.specs.Ingest.{ingested}
 use Rattle.plain_hierarchy.proofs.entry.roots.Given as goal
 
 abbrev pub invariant-loop-sv : goal.invariant-loop-sv

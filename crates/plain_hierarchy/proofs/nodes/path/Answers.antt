@@ -2,7 +2,7 @@ use Rattle.std.proofs.Common.{◌≡◌, ◌-◌, ◌≤◌, ℕ, take, map, len
 use Rattle.std.proofs.Math.ListN.{length-set}
 use Rattle.op_model.specs.Chunks.{layers, layers_from, top}
 use Rattle.op_model.specs.Labels.{node, path}
-use Rattle.plain_hierarchy.specs.Ingest.{ingested}
+use Rattle.op_model.specs.Ingest.{ingested}
 use Rattle.plain_hierarchy.proofs.Counts.{path_more}
 use Rattle.plain_hierarchy.proofs.nodes.path.Goals as goal
 

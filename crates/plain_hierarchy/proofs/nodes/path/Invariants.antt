@@ -1,7 +1,7 @@
 use Rattle.std.proofs.Common.{◌≡◌, ℕ, take, map, length}
 use Rattle.op_model.specs.Chunks.{layers_from}
 use Rattle.op_model.specs.Labels.{node}
-use Rattle.plain_hierarchy.specs.Ingest.{ingested}
+use Rattle.op_model.specs.Ingest.{ingested}
 use Rattle.plain_hierarchy.proofs.nodes.path.Given as goal
 
 abbrev pub invariant-loop-place : goal.invariant-loop-place

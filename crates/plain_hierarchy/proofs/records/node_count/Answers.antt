@@ -2,7 +2,7 @@ use Rattle.std.proofs.Common.{◌≡◌, ◌+◌, ◌-◌, ℕ, map, refl, ◌�
 use mathlib.Core.Path.{ap₂}
 use Rattle.op_model.specs.Chunks.{layers, layers_from}
 use Rattle.op_model.specs.Records.{node_count, nodes_in, total}
-use Rattle.plain_hierarchy.specs.Ingest.{ingested}
+use Rattle.op_model.specs.Ingest.{ingested}
 use Rattle.plain_hierarchy.proofs.Counts.{totals_more}
 use Rattle.plain_hierarchy.proofs.records.node_count.Goals as goal
 

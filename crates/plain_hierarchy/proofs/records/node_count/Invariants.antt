@@ -1,7 +1,7 @@
 use Rattle.std.proofs.Common.{◌≡◌, ◌≤◌, ◌*◌, ◌^◌, map}
 use Rattle.op_model.specs.Chunks.{layers_from}
 use Rattle.op_model.specs.Records.{nodes_in, total}
-use Rattle.plain_hierarchy.specs.Ingest.{ingested}
+use Rattle.op_model.specs.Ingest.{ingested}
 use Rattle.plain_hierarchy.proofs.records.node_count.Given as goal
 
 abbrev pub invariant-loop-place : goal.invariant-loop-place

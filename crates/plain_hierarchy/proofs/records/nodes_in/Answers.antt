@@ -2,7 +2,8 @@ use Rattle.std.proofs.Common.{◌≡◌, length, eqb, ◌∙◌, ap, arith, rule
 use Rattle.graph_model.proofs.ListLemmas.{filter_length}
 use Rattle.op_model.specs.Labels.{least}
 use Rattle.op_model.specs.Records.{nodes_in}
-use Rattle.plain_hierarchy.specs.Ingest.{ingested, firsts}
+use Rattle.op_model.specs.Ingest.{ingested}
+use Rattle.plain_hierarchy.specs.Ingest.{firsts}
 use Rattle.plain_hierarchy.proofs.records.nodes_in.Goals as goal
 
 pub returns-clause-is : goal.returns-clause-is

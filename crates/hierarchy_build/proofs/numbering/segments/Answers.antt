@@ -1,5 +1,0 @@
-use Rattle.hierarchy_build.proofs.Steps.{power_range}
-use Rattle.hierarchy_build.proofs.numbering.segments.Goals as goal
-
-pub returns-clause-range : goal.returns-clause-range
-returns-clause-range c = power_range c.width.result c.width.ensures.range.0

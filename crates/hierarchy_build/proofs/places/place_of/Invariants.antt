@@ -1,9 +1,0 @@
-use Rattle.std.proofs.Common.{◌-◌, ◌≤◌, length}
-use Rattle.hierarchy_build.specs.Places.{place_of}
-use Rattle.hierarchy_build.proofs.places.place_of.Given as goal
-
-abbrev pub invariant-loop-low : goal.invariant-loop-low
-invariant-loop-low l = (l.low ≤ place_of l.ids l.id) × (place_of l.ids l.id ≤ l.high) × (l.high ≤ length l.ids)
-
-abbrev pub decreases-loop-low : goal.decreases-loop-low
-decreases-loop-low l = l.high - l.low

@@ -1,0 +1,9 @@
+pub mod Placing
+pub mod Pushes
+pub mod Joining
+pub mod Grouping
+pub mod Leaves
+pub mod Steps
+pub mod LayerNodes
+pub mod AllLayers
+pub mod EdgeOrder
