@@ -42,37 +42,3 @@ pub fn write_digits(n: u64, into: &mut [u8; 20]) -> usize
     into[..text.len()].copy_from_slice(text);
     text.len()
 }
-
-#[cfg(test)]
-mod tests {
-    use super::*;
-
-    #[test]
-    fn texts_and_numbers(rt: HostRuntime) {
-        for (text, number) in [
-            ("0", Some(0)),
-            ("10", Some(10)),
-            ("18446744073709551615", Some(18446744073709551615)),
-            ("18446744073709551616", None),
-            ("100000000000000000000", None),
-            ("", None),
-            ("00", None),
-            ("01", None),
-            ("+1", None),
-            ("-1", None),
-            (" 1", None),
-            ("1a", None),
-        ] {
-            assert_eq!(rt; read_digits(text.as_bytes()), number, "at {text}");
-        }
-    }
-
-    #[test]
-    fn digits_at_the_front(rt: HostRuntime) {
-        let mut into = [b'.'; 20];
-        assert_eq!(rt; write_digits(1024, &mut into), 4);
-        assert_eq!(rt; &into[..6], b"1024..".as_slice());
-        assert_eq!(rt; write_digits(u64::MAX, &mut into), 20);
-        assert_eq!(rt; &into, b"18446744073709551615");
-    }
-}

@@ -13,6 +13,3 @@ mod words;
 pub use files::{answer_file, request_file};
 pub use job::{Job, Name, Names, RehearseJob};
 pub use words::{WordsError, read_words};
-
-#[cfg(test)]
-mod tests;

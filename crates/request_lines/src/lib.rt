@@ -13,16 +13,12 @@
 mod entries;
 mod fields;
 mod items;
-#[cfg(test)]
-mod line_tests;
 mod lines;
 mod lists;
 mod page;
 mod reading;
 mod refused;
 mod replies;
-#[cfg(test)]
-mod tests;
 
 pub use entries::write_entry;
 pub use lines::split_line;

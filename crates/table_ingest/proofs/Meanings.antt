@@ -29,6 +29,10 @@ module _ {A : Type 0} (t : Table) (read : List A → List (List ℕ) → Result 
   abbrev pub Going : Rdr → Rdr → List A → ℕ → Type 0
   Going start rdr items n = (rows : Rows) → HasLeft start rows → (rest : Rows) × HasLeft rdr rest × (meanings t read [] 1 rows ≡ meanings t read items n rest)
 
+  -- nothing was taken yet
+  pub begun : (start : Rdr) (items : List A) → items ≡ [] → Going start start items 1
+  begun start items e rows h = (rows, h, ap (λ is. meanings t read is 1 rows) (sym e))
+
   -- no record is left
   pub ended : (start rdr new : Rdr) (items : List A) (n : ℕ) (fields : List (List ℕ)) (found : Bool) → Going start rdr items n → Read rdr new fields found → found ≡ false
       → (rows : Rows) → HasLeft start rows → meanings t read [] 1 rows ≡ Ok items
@@ -121,3 +125,8 @@ bad_took V t n before after meaning c e is m = subst (λ x. Took {V = V} t n bef
 -- a fault was given
 pub bad_given : {A : Type 0} (V : Type 0) (view : V → A) (t : Table) (n : ℕ) (c : Cause) (e : TableError) (wanted : Result A Fault) → e ≡ errors.Bad t n c → wanted ≡ Err (bad t n c) → Gives view (Err e) wanted
 bad_given V view t n c e wanted is w = subst (λ x. Gives view (Err x) wanted) (sym is) w
+
+-- a fault is the same, whatever would have been given
+pub still_bad : {A : Type 0} (V W : Type 0) (view : V → A) (other : W → A) (e : TableError) (wanted : Result A Fault) → Gives view (Err e) wanted → Gives other (Err e) wanted
+still_bad V W view other errors.NoMemory wanted h = tt
+still_bad V W view other (errors.Bad t n c) wanted h = h

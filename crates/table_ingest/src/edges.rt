@@ -171,6 +171,28 @@ fn take_edge(
     }
 }
 
+/// Takes the edges of the records that a reader has left into an empty list, and their ends into a set.
+fn fill_edges(
+    known: &IndexSet<u64>,
+    rdr: &mut Reader<&[u8]>,
+    row: &mut ByteRecord,
+    pairs: &mut IndexSet<(u64, u64)>,
+    edges: &mut Vec<Edge>,
+) -> Result<(), TableError>
+    requires empty { edges.old.items ≡ [] }
+    requires pairs { pairs.old.keys ≡ map ends edges.old.items }
+    ensures { (rows : List (List (List ℕ))) → HasLeft rdr.old rows → Gives (λ u. edges.new.items) result (meanings tables.Edges (edge_of known.now.keys) [] 1 rows) }
+{
+    for number in 1..u64::MAX {
+        let found = next(rdr, row)?;
+        if !found {
+            return Ok(());
+        }
+        take_edge(known, row, number, pairs, edges)?;
+    }
+    Err(TableError::NoMemory)
+}
+
 /// The edges of the records that a reader has left.
 fn take_edges(
     alloc: Global,
@@ -182,14 +204,10 @@ fn take_edges(
 {
     let mut pairs = IndexSet::new(alloc);
     let mut edges = Vec::new(alloc);
-    for number in 1..u64::MAX {
-        let found = next(rdr, row)?;
-        if !found {
-            return Ok(edges);
-        }
-        take_edge(known, row, number, &mut pairs, &mut edges)?;
+    match fill_edges(known, rdr, row, &mut pairs, &mut edges) {
+        Ok(()) => Ok(edges),
+        Err(stop) => Err(stop),
     }
-    Err(TableError::NoMemory)
 }
 
 /// Whether the next record is the header.
@@ -204,9 +222,25 @@ fn takes_header(rdr: &mut Reader<&[u8]>, row: &mut ByteRecord) -> Result<bool, T
     Ok(is_edge_header(row))
 }
 
+/// The edges of the records of an edge table, of which a reader has left all, or its first record with a cause.
+#[tactic(auto, unfolding(crate::specs::Edges::edges_of))]
+fn edges_under_header(
+    alloc: Global,
+    known: &IndexSet<u64>,
+    rdr: &mut Reader<&[u8]>,
+    row: &mut ByteRecord,
+) -> Result<Vec<Edge>, TableError>
+    ensures { (rows : List (List (List ℕ))) → HasLeft rdr.old rows → Gives (λ edges. edges.items) result (edges_of known.now.keys rows) }
+{
+    let found = takes_header(rdr, row)?;
+    if !found {
+        return Err(bad_edge(0, Cause::BadHeader));
+    }
+    take_edges(alloc, known, rdr, row)
+}
+
 /// The edges of an edge table in the order of its records, between supervoxels with these ids; or its first
 /// record with a cause.
-#[tactic(auto, unfolding(crate::specs::Edges::edges_of))]
 pub fn read_edges(
     alloc: Global,
     text: &[u8],
@@ -216,9 +250,5 @@ pub fn read_edges(
 {
     let mut rdr = reader_of(alloc, text);
     let mut row = ByteRecord::new(alloc);
-    let found = takes_header(&mut rdr, &mut row)?;
-    if !found {
-        return Err(bad_edge(0, Cause::BadHeader));
-    }
-    take_edges(alloc, known, &mut rdr, &mut row)
+    edges_under_header(alloc, known, &mut rdr, &mut row)
 }

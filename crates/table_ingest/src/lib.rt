@@ -20,8 +20,6 @@ pub mod laws;
 mod records;
 mod sorting;
 mod supervoxels;
-#[cfg(test)]
-mod tests;
 
 pub use base::read_base;
 pub use errors::{Cause, Table, TableError};

@@ -113,6 +113,26 @@ fn take_supervoxel(
     }
 }
 
+/// Takes the supervoxels of the records that a reader has left into an empty set.
+fn fill_supervoxels(
+    dataset: &Dataset,
+    rdr: &mut Reader<&[u8]>,
+    row: &mut ByteRecord,
+    ids: &mut IndexSet<u64>,
+) -> Result<(), TableError>
+    requires empty { ids.old.keys ≡ [] }
+    ensures { (rows : List (List (List ℕ))) → HasLeft rdr.old rows → Gives (λ u. ids.new.keys) result (meanings tables.Supervoxels (supervoxel_of dataset.now) [] 1 rows) }
+{
+    for number in 1..u64::MAX {
+        let found = next(rdr, row)?;
+        if !found {
+            return Ok(());
+        }
+        take_supervoxel(dataset, row, number, ids)?;
+    }
+    Err(TableError::NoMemory)
+}
+
 /// The supervoxels of the records that a reader has left.
 fn take_supervoxels(
     alloc: Global,
@@ -123,14 +143,10 @@ fn take_supervoxels(
     ensures { (rows : List (List (List ℕ))) → HasLeft rdr.old rows → Gives (λ ids. ids.keys) result (meanings tables.Supervoxels (supervoxel_of dataset.now) [] 1 rows) }
 {
     let mut ids = IndexSet::new(alloc);
-    for number in 1..u64::MAX {
-        let found = next(rdr, row)?;
-        if !found {
-            return Ok(ids);
-        }
-        take_supervoxel(dataset, row, number, &mut ids)?;
+    match fill_supervoxels(dataset, rdr, row, &mut ids) {
+        Ok(()) => Ok(ids),
+        Err(stop) => Err(stop),
     }
-    Err(TableError::NoMemory)
 }
 
 /// Whether the next record is the header.
@@ -145,16 +161,28 @@ fn takes_header(rdr: &mut Reader<&[u8]>, row: &mut ByteRecord) -> Result<bool, T
     Ok(is_id_header(row))
 }
 
-/// The ids of a supervoxel table in the order of its records, or its first record with a cause.
+/// The ids of the records of a supervoxel table, of which a reader has left all, or its first record with a cause.
 #[tactic(auto, unfolding(crate::specs::Supervoxels::ids_of))]
+fn ids_under_header(
+    alloc: Global,
+    dataset: &Dataset,
+    rdr: &mut Reader<&[u8]>,
+    row: &mut ByteRecord,
+) -> Result<IndexSet<u64>, TableError>
+    ensures { (rows : List (List (List ℕ))) → HasLeft rdr.old rows → Gives (λ ids. ids.keys) result (ids_of dataset.now rows) }
+{
+    let found = takes_header(rdr, row)?;
+    if !found {
+        return Err(bad_supervoxel(0, Cause::BadHeader));
+    }
+    take_supervoxels(alloc, dataset, rdr, row)
+}
+
+/// The ids of a supervoxel table in the order of its records, or its first record with a cause.
 pub fn read_ids(alloc: Global, text: &[u8], dataset: &Dataset) -> Result<IndexSet<u64>, TableError>
     ensures { (rows : List (List (List ℕ))) → Are text.now rows → Gives (λ ids. ids.keys) result (ids_of dataset.now rows) }
 {
     let mut rdr = reader_of(alloc, text);
     let mut row = ByteRecord::new(alloc);
-    let found = takes_header(&mut rdr, &mut row)?;
-    if !found {
-        return Err(bad_supervoxel(0, Cause::BadHeader));
-    }
-    take_supervoxels(alloc, dataset, &mut rdr, &mut row)
+    ids_under_header(alloc, dataset, &mut rdr, &mut row)
 }

@@ -1,23 +1,10 @@
-use Rattle.std.proofs.Common.{rules}
-use Rattle.csv.specs.Records.{fields_of}
-use Rattle.table_ingest.specs.Edges.{edge_of}
-use Rattle.table_ingest.specs.declared.errors.Table.TheVariants as tables
-use Rattle.table_ingest.proofs.Meanings.{ended, refused, taken}
+use Rattle.std.proofs.Common.{Vec, Global}
+use Rattle.op_model.specs.declared.Edge.{Edge}
+use Rattle.table_ingest.proofs.Meanings.{still_bad}
 use Rattle.table_ingest.proofs.edges.take_edges.Goals as goal
 
-pub returns-then-not-found : goal.returns-then-not-found
-returns-then-not-found c =
-    ended tables.Edges (edge_of c.args.known.now.keys) c.args.rdr.now c.loop-number.rdr c.next.new.rdr c.loop-number.edges.items c.loop-number.number (fields_of c.next.new.row) c.in_ok-found.found
-    c.loop-number.invariant.0 c.in_ok-found.ensures.takes (search rules)
+pub returns-in-Ok : goal.returns-in-Ok
+returns-in-Ok c = c.in-Ok.ensures
 
-pub returns-in_err-take_edge : goal.returns-in_err-take_edge
-returns-in_err-take_edge c =
-    refused tables.Edges (edge_of c.args.known.now.keys) (Unit {0}) (λ edges. edges.items) c.args.rdr.now c.loop-number.rdr c.next.new.rdr c.loop-number.edges.items c.take_edge.new.edges.items c.loop-number.number (fields_of c.next.new.row) c.in_ok-found.found
-    c.in_err-take_edge.field-0.0 c.from_residual-in_err-take_edge.result c.loop-number.invariant.0 c.in_ok-found.ensures.takes (search rules) c.in_err-take_edge.ensures.took (search rules)
-
-pub loop-number-preserved : goal.loop-number-preserved
-loop-number-preserved c = (
-  taken tables.Edges (edge_of c.args.known.now.keys) (tt {0}) c.args.rdr.now c.loop-number.rdr c.next.new.rdr c.loop-number.edges.items c.take_edge.new.edges.items c.loop-number.number (fields_of c.next.new.row) c.in_ok-found.found
-      c.loop-number.invariant.0 c.in_ok-found.ensures.takes (search rules) c.in_ok-take_edge.ensures.took,
-  search rules,
-)
+pub returns : goal.returns
+returns c rows left = still_bad (Unit {0}) (Vec Edge Global) (λ u. c.fill_edges.new.edges.items) (λ v. v.items) c.in-Err.stop _ (c.in-Err.ensures rows left)

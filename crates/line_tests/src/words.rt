@@ -1,0 +1,102 @@
+//! The words of the command line.
+
+use pcg_base::NoMemory;
+use pcg_words::{Job, RehearseJob, answer_file, read_words, request_file};
+use std::alloc::{AllocError, Global};
+use std::test::Fail;
+
+/// The words of a rehearsal, of which one may be another.
+fn words(alloc: Global, place: usize, word: &str) -> Result<Vec<Vec<u8>>, AllocError> {
+    let usual = [
+        "rehearse",
+        "--bits",
+        "8",
+        "--grid",
+        "2,1,1",
+        "--supervoxels",
+        "sv.csv",
+        "--edges",
+        "edges.csv",
+        "--merge-affinity",
+        "1",
+        "--records",
+        "2",
+        "--clock",
+        "1000,10",
+        "first",
+    ];
+    let mut list = Vec::new(alloc);
+    for (k, text) in usual.into_iter().enumerate() {
+        let text = if k == place { word } else { text };
+        list.push(Vec::from_slice(alloc, text.as_bytes())?)?;
+    }
+    Ok(list)
+}
+
+/// The numbers of a job, in the order of the words.
+fn numbers(job: &RehearseJob) -> [u64; 8] {
+    [
+        job.bits,
+        job.grid.nx() as u64,
+        job.grid.ny() as u64,
+        job.grid.nz() as u64,
+        job.merge_affinity,
+        job.records,
+        job.clock.start,
+        job.clock.step,
+    ]
+}
+
+/// Whether the names of a job are those of its words.
+fn has_its_names(alloc: Global, job: &RehearseJob) -> Result<bool, NoMemory> {
+    for stem in &job.stems.list {
+        if request_file(alloc, stem)?.text.as_str() != "first.req" {
+            return Ok(false);
+        }
+        if answer_file(alloc, stem)?.text.as_str() != "first.ans" {
+            return Ok(false);
+        }
+    }
+    Ok(job.supervoxels.text.as_str() == "sv.csv" && job.edges.text.as_str() == "edges.csv")
+}
+
+#[test]
+fn the_words_of_a_rehearsal(rt: HostRuntime) -> Result<(), Fail> {
+    let usual = words(rt.alloc(), 99, "")?;
+    let Job::Rehearse(job) = read_words(rt.alloc(), usual.as_slice())?;
+    assert!(rt; numbers(&job) == [8, 2, 1, 1, 1, 2, 1000, 10]);
+    assert!(rt; has_its_names(rt.alloc(), &job)?);
+    Ok(())
+}
+
+#[test]
+fn words_in_their_places(rt: HostRuntime) -> Result<(), Fail> {
+    for (place, word, is_fine) in [
+        (0, "serve", false),
+        (1, "--bit", false),
+        (2, "16", true),
+        (2, "17", false),
+        (2, "08", false),
+        (4, "256,256,256", true),
+        (4, "257,1,1", false),
+        (4, "2,1", false),
+        (6, "a b/ü.csv", true),
+        (6, "", false),
+        (6, "edges.csv", false),
+        (6, "first.req", false),
+        (10, "4294967295", true),
+        (10, "4294967296", false),
+        (12, "16777216", true),
+        (12, "1", false),
+        (14, "4611686018427387903,0", true),
+        (14, "4611686018427387904,0", false),
+        (15, "-first", false),
+    ] {
+        let list = words(rt.alloc(), place, word)?;
+        assert!(rt;
+            read_words(rt.alloc(), list.as_slice()).is_ok() == is_fine,
+            "{word}"
+        );
+    }
+    Ok(())
+}
