@@ -1,132 +1,15 @@
-//! Worked cuts, and the two bodies beside each other.
+//! Least cuts of drawn nets, by two bodies.
 
 ghost use Rattle.std.specs.Prelude.{◌≡◌, ◌<◌, ◌≤◌, length, false};
 ghost use Rattle.std.specs.List.{All};
 ghost use Rattle.graph_model.specs.Lists.{has};
 
-use super::*;
+use crate::links::{glue, link};
 use flow_net::{Link, Net, check_cut, is_net};
+use min_cut::{least_cut, plain};
 use std::alloc::{AllocError, Global};
 use std::process::Abort;
 use std::test::Fail;
-
-fn link(a: u32, b: u32, room: u32) -> Link {
-    Link {
-        a,
-        b,
-        room: Some(room),
-    }
-}
-
-fn glue(a: u32, b: u32) -> Link {
-    Link { a, b, room: None }
-}
-
-// the cut nearest the source; the one of two least cuts that has the least source side; the greatest room
-#[test]
-fn worked_cuts(rt: HostRuntime) -> Result<(), Fail> {
-    let alloc = rt.alloc();
-    for (n, links, source, sink, cut, total, amounts) in [
-        (
-            4,
-            [link(0, 1, 5), link(1, 2, 5), link(2, 3, 5)].as_slice(),
-            0,
-            3,
-            [0].as_slice(),
-            5,
-            [5, 5, 5].as_slice(),
-        ),
-        (
-            4,
-            [link(0, 1, 5), link(1, 2, 5), link(2, 3, 5)].as_slice(),
-            3,
-            0,
-            [2].as_slice(),
-            5,
-            [-5, -5, -5].as_slice(),
-        ),
-        (
-            4,
-            [link(0, 1, 10), link(1, 2, 7), link(2, 3, 5)].as_slice(),
-            0,
-            3,
-            [2].as_slice(),
-            5,
-            [5, 5, 5].as_slice(),
-        ),
-        (
-            4,
-            [
-                link(0, 1, 3),
-                link(0, 2, 2),
-                link(1, 2, 5),
-                link(1, 3, 2),
-                link(2, 3, 3),
-            ]
-            .as_slice(),
-            0,
-            3,
-            [0, 1].as_slice(),
-            5,
-            [3, 2, 1, 2, 3].as_slice(),
-        ),
-        (
-            2,
-            [link(0, 1, 4294967295)].as_slice(),
-            0,
-            1,
-            [0].as_slice(),
-            4294967295,
-            [4294967295].as_slice(),
-        ),
-        (
-            3,
-            [glue(0, 1), link(1, 2, 7)].as_slice(),
-            0,
-            2,
-            [1].as_slice(),
-            7,
-            [7, 7].as_slice(),
-        ),
-        (
-            3,
-            [link(0, 1, 7)].as_slice(),
-            0,
-            2,
-            [].as_slice(),
-            0,
-            [0].as_slice(),
-        ),
-    ] {
-        assert!(rt; is_net(n, links));
-        assert!(rt; source < n && sink < n && source != sink && links.len() <= 500000);
-        let net = Net::new(n, links.to_vec(alloc)?);
-        match least_cut(alloc, &net, &[source], &[sink]) {
-            Ok(least) => {
-                assert_eq!(rt; least.cut.links.as_slice(), cut);
-                assert_eq!(rt; least.total, total);
-                assert_eq!(rt; least.flow.amounts.as_slice(), amounts);
-            }
-            Err(refusal) => assert!(rt; false, "{refusal:?}"),
-        }
-    }
-    Ok(())
-}
-
-// p-q is glue, q-r weighs 7: r is no source that glue joins to q, p is
-#[test]
-fn first_glued_source(rt: HostRuntime) -> Result<(), Fail> {
-    let links = vec![in rt.alloc(); glue(0, 1), link(1, 2, 7)]?;
-    assert!(rt; is_net(3, &links));
-    let net = Net::new(3, links);
-    for least in [
-        least_cut(rt.alloc(), &net, &[2, 0], &[1]),
-        plain::least_cut(rt.alloc(), &net, &[2, 0], &[1]),
-    ] {
-        assert!(rt; matches!(least, Err(CutError::Glued { source: 0, sink: 1 })));
-    }
-    Ok(())
-}
 
 fn draw(state: &mut u64, n: u64) -> u64
     requires { 0 < n }

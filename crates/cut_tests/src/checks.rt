@@ -1,0 +1,65 @@
+//! Nets, and the faults of a cut and a flow.
+
+use crate::links::{glue, link};
+use flow_net::{Cut, CutFault, Flow, Net, check_cut, is_net};
+use std::test::Fail;
+
+#[test]
+fn nets(rt: HostRuntime) {
+    let ascending = [link(0, 1, 1), link(2, 0, 1), link(2, 1, 1)];
+    assert!(rt; is_net(3, &ascending));
+    assert!(rt; !is_net(2, &ascending));
+    assert!(rt; is_net(3, &[ascending[2], ascending[0]]));
+    assert!(rt; !is_net(3, &[link(0, 1, 1), glue(1, 0)]));
+    assert!(rt; !is_net(3, &[link(1, 1, 1)]));
+    assert!(rt; is_net(0, &[]));
+}
+
+// a walk 0-1-2-3 with glue in the middle: what comes first of several faults
+#[test]
+fn order_of_faults(rt: HostRuntime) -> Result<(), Fail> {
+    let links = vec![in rt.alloc(); link(0, 1, 3), glue(1, 2), link(2, 3, 4)]?;
+    assert!(rt; is_net(4, &links));
+    let net = Net::new(4, links);
+    let mut seen = [false; 4];
+    for (numbers, amounts, answer) in [
+        ([0].as_slice(), [3, 3, 3], Ok(())),
+        (&[0, 1], [4, 0, 5], Err(CutFault::CutsGlue { link: 1 })),
+        (
+            &[2],
+            [3, -9, -5],
+            Err(CutFault::OverRoom {
+                link: 2,
+                amount: -5,
+            }),
+        ),
+        (
+            &[],
+            [3, 3, -4],
+            Err(CutFault::Unbalanced {
+                vertex: 2,
+                into: 7,
+                out: 0,
+            }),
+        ),
+        (&[], [2, 2, 2], Err(CutFault::Open { source: 0, sink: 3 })),
+        (
+            &[2],
+            [3, 3, 3],
+            Err(CutFault::Unequal {
+                value: 3,
+                weight: 4,
+            }),
+        ),
+    ] {
+        let cut = Cut {
+            links: numbers.to_vec(rt.alloc())?,
+        };
+        let flow = Flow {
+            amounts: Vec::from_array(rt.alloc(), amounts)?,
+        };
+        let answered = check_cut(&net, &[0, 0], &[3], &cut, &flow, &mut seen);
+        assert_eq!(rt; answered, answer, "at {amounts:?}");
+    }
+    Ok(())
+}
