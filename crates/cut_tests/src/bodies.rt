@@ -6,7 +6,7 @@ ghost use Rattle.graph_model.specs.Lists.{has};
 
 use crate::links::{glue, link};
 use flow_net::{Link, Net, check_cut, is_net};
-use min_cut::{least_cut, plain};
+use min_cut::{CutError, LeastCut, least_cut, plain};
 use std::alloc::{AllocError, Global};
 use std::process::Abort;
 use std::test::Fail;
@@ -40,7 +40,76 @@ fn draw_links(alloc: Global, state: &mut u64, n: u32) -> Result<Vec<Link>, Alloc
     Ok(links)
 }
 
-// whether there is a cut; both bodies say so, and name the same one, which checks
+// the cut by blocking flows, which checks
+fn shown(
+    rt: &impl Abort,
+    alloc: Global,
+    net: &Net,
+    source: u32,
+    sinks: &[u32],
+    seen: &mut [bool],
+) -> Result<LeastCut, CutError>
+    requires few { length net.now.links ≤ 500000 }
+    requires source { source < net.now.size }
+    requires sinks { All (λ t. t < net.now.size) sinks.now }
+    requires some { 0 < length sinks.now }
+    requires apart { has sinks.now source ≡ false }
+    requires room { length seen.old ≡ net.now.size }
+{
+    let least = least_cut(alloc, net, &[source], sinks)?;
+    let checked = check_cut(net, &[source], sinks, &least.cut, &least.flow, seen);
+    assert!(rt; checked.is_ok());
+    Ok(least)
+}
+
+// the cut by single augmenting walks, which checks
+fn plainly_shown(
+    rt: &impl Abort,
+    alloc: Global,
+    net: &Net,
+    source: u32,
+    sinks: &[u32],
+    seen: &mut [bool],
+) -> Result<LeastCut, CutError>
+    requires few { length net.now.links ≤ 500000 }
+    requires source { source < net.now.size }
+    requires sinks { All (λ t. t < net.now.size) sinks.now }
+    requires some { 0 < length sinks.now }
+    requires apart { has sinks.now source ≡ false }
+    requires room { length seen.old ≡ net.now.size }
+{
+    let least = plain::least_cut(alloc, net, &[source], sinks)?;
+    let checked = check_cut(net, &[source], sinks, &least.cut, &least.flow, seen);
+    assert!(rt; checked.is_ok());
+    Ok(least)
+}
+
+// whether both are the same cut, or the same refusal
+fn is_same(one: &Result<LeastCut, CutError>, other: &Result<LeastCut, CutError>) -> bool {
+    match one {
+        Ok(one) => is_cut(other, one),
+        Err(one) => is_refusal(other, one),
+    }
+}
+
+fn is_cut(found: &Result<LeastCut, CutError>, wanted: &LeastCut) -> bool {
+    match found {
+        Ok(found) => {
+            found.total == wanted.total && found.cut.links.as_slice() == wanted.cut.links.as_slice()
+        }
+        Err(_) => false,
+    }
+}
+
+/// Whether it is this refusal.
+pub fn is_refusal(found: &Result<LeastCut, CutError>, wanted: &CutError) -> bool {
+    match found {
+        Ok(_) => false,
+        Err(found) => found == wanted,
+    }
+}
+
+// whether there is a cut; both bodies say so, and name the same one
 fn has_cut(
     rt: &impl Abort,
     alloc: Global,
@@ -55,30 +124,10 @@ fn has_cut(
     requires apart { has sinks.now source ≡ false }
 {
     let mut seen = vec![in alloc; false; net.size() as usize]?;
-    match (
-        least_cut(alloc, net, &[source], sinks),
-        plain::least_cut(alloc, net, &[source], sinks),
-    ) {
-        (Ok(one), Ok(other)) => {
-            assert_eq!(rt; one.cut.links.as_slice(), other.cut.links.as_slice());
-            assert_eq!(rt; one.total, other.total);
-            for (cut, flow) in [(&one.cut, &one.flow), (&other.cut, &other.flow)] {
-                assert_eq!(rt;
-                    check_cut(net, &[source], sinks, cut, flow, seen.as_mut_slice()),
-                    Ok(())
-                );
-            }
-            Ok(true)
-        }
-        (Err(one), Err(other)) => {
-            assert_eq!(rt; one, other);
-            Ok(false)
-        }
-        _ => {
-            assert!(rt; false, "one body refuses");
-            Ok(false)
-        }
-    }
+    let one = shown(rt, alloc, net, source, sinks, seen.as_mut_slice());
+    let other = plainly_shown(rt, alloc, net, source, sinks, seen.as_mut_slice());
+    assert!(rt; is_same(&one, &other));
+    Ok(one.is_ok())
 }
 
 #[test]

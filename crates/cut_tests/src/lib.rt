@@ -4,7 +4,7 @@
 //!
 //! - `sums`: sums of affinities of lengths around whole blocks of lanes
 //! - `labels`: the components of small graphs
-//! - `checks`: which lists of links are nets; which of several faults of a cut and a flow comes first
+//! - `checks`: which lists of links are nets; what is told of one cut with several flows
 //! - `cuts`: worked least cuts with their weights and flows; glue that joins a source to a sink
 //! - `bodies`: least cuts of drawn nets, by blocking flows and by single augmenting walks. Both find
 //!   the same cut, each flow shows it, and both refuse the same nets
