@@ -10,3 +10,4 @@ pub mod Climbing
 pub mod Queued
 pub mod Flowing
 pub mod Assembled
+pub mod Left
