@@ -11,3 +11,4 @@ pub mod Queued
 pub mod Flowing
 pub mod Assembled
 pub mod Left
+pub mod Ends
