@@ -4,3 +4,4 @@ pub mod Nets
 pub mod Adding
 pub mod Reached
 pub mod Accepting
+pub mod Faults

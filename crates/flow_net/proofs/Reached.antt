@@ -1,9 +1,11 @@
 -- Marks that spread over links outside a set.
-use Rattle.std.proofs.Common.{◌≡◌, ℕ, zero, suc, ◌+◌, ◌-◌, ◌*◌, ◌<◌, ◌≤◌, Bool, true, false, cond, List, [], ◌∷◌, length, get_or, map, nat_eq, None, is_some, sym, refl, ap, ◌∙◌, subst, inl, inr, ◌⊎◌, arith, eq-or-lt_of_le, count_by, find, All, eq-eqb, le_refl, zero-le}
+use Rattle.std.proofs.Common.{◌≡◌, ℕ, zero, suc, ◌+◌, ◌-◌, ◌*◌, ◌<◌, ◌≤◌, Bool, true, false, cond, List, [], ◌∷◌, length, get_or, map, nat_eq, None, is_some, sym, refl, ap, ◌∙◌, subst, inl, inr, ◌⊎◌, arith, eq-or-lt_of_le, count_by, find, All, eq-eqb, le_refl, zero-le, ◌||◌}
+use Rattle.std.proofs.Math.ListN.{set}
+use Rattle.std.proofs.lemmas.Grind.{common_steps}
 use Rattle.std.proofs.lemmas.List.Sums.{sum_by-cons}
-use Rattle.std.proofs.lemmas.List.{length-map, get_or_past}
-use Rattle.std.proofs.lemmas.Bool.{cases_Bool, cases_lt, false≢true, or_cases, false_from_ne_true}
-use Rattle.std.proofs.Math.Bool.{or-false}
+use Rattle.std.proofs.lemmas.List.{length-map, get_or_past, get_or-set_other}
+use Rattle.std.proofs.lemmas.Bool.{cases_Bool, cases_eq, cases_lt, false≢true, or_cases, false_from_ne_true}
+use Rattle.std.proofs.Math.Bool.{beq, or-false}
 use Rattle.flow_net.specs.declared.Link.{Link}
 use Rattle.graph_model.specs.Lists.{has}
 use Rattle.graph_model.specs.Wires.{Wire, wire, EndsBelow}
@@ -168,3 +170,36 @@ no_sink ws x sources sinks seen h b e = open_none ws x sources sinks (λ k l.
     let t = get_or sinks j 0 in
     false_from_ne_true _ (λ y. false≢true (sym (find_none_at (λ t. get_or seen t false) sinks e j 0 m)
     ∙ (h t (b j 0 m) ∙ any_from (λ r. joined_outside ws x r t) sources s c y))))))
+
+-- of two different marks the other one
+pub other_false : (x y : Bool) → beq x y ≡ false → x ≡ true → y ≡ false
+other_false true false e t = refl
+other_false true true e t = absurd (false≢true (sym e))
+other_false false y e t = absurd (false≢true t)
+
+pub other_true : (x y : Bool) → beq x y ≡ false → x ≡ false → y ≡ true
+other_true false true e f = refl
+other_true false false e f = absurd (false≢true (sym e))
+other_true true y e f = absurd (false≢true (sym f))
+
+-- the marks with one more at j, beside a marked one
+spreads_at : (old : List Bool) (a b j : ℕ) → j < length old → get_or old j false ≡ false → (j ≡ a) ⊎ (j ≡ b)
+    → (get_or old a false || get_or old b false) ≡ true → Spreads old (set old j true) a b
+spreads_at old a b j l f is e = record {
+  either = e;
+  marks = λ v t. elim (cases_eq v j) [
+    | inl s ↦ inr (elim is [ inl p ↦ inl (s ∙ p) | inr p ↦ inr (s ∙ p) ])
+    | inr n ↦ inl (sym (get_or-set_other old j v true false n) ∙ t)
+  ];
+  keeps = λ v t. elim (cases_eq v j) [
+    | inl s ↦ absurd (false≢true (sym f ∙ (ap (λ i. get_or old i false) (sym s) ∙ t)))
+    | inr n ↦ get_or-set_other old j v true false n ∙ t
+  ];
+  counts = grind (arith, common_steps);
+}
+
+pub spreads_to : (old : List Bool) (a b : ℕ) → b < length old → get_or old a false ≡ true → get_or old b false ≡ false → Spreads old (set old b true) a b
+spreads_to old a b l t f = spreads_at old a b b l f (inr refl) (rw t refl)
+
+pub spreads_back : (old : List Bool) (a b : ℕ) → a < length old → get_or old a false ≡ false → get_or old b false ≡ true → Spreads old (set old a true) a b
+spreads_back old a b l f t = spreads_at old a b a l f (inl refl) (rw (f, t) refl)

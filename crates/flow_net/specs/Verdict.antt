@@ -41,6 +41,11 @@ abbrev pub result_of : Option CutFault → Result (Unit {0}) CutFault
 result_of None = Ok tt
 result_of (Some fault) = Err fault
 
+-- the fault of a value that isn't the cut's weight
+abbrev pub sums_fault : List Wire → List ℕ → List ℕ → List ℤ → Option CutFault
+sums_fault ws sources cut fs =
+    cond (int_eq (value ws fs sources) (pos (weight ws (has cut)))) None (Some (Unequal (value ws fs sources) (weight ws (has cut))))
+
 -- the first fault: glue that is cut, an amount over its room, a vertex that isn't balanced, a source that the cut
 -- leaves joined to a sink, a value that isn't the cut's weight; the least link or vertex, the first source, its first sink
 unfoldable pub first_fault : NetView → List ℕ → List ℕ → List ℕ → List ℤ → Option CutFault
@@ -50,8 +55,7 @@ first_fault net sources sinks cut fs =
     (unless (first_below (over_room ws fs) (length ws)) (λ k. OverRoom k (amount fs k))
     (unless (first_below (unbalanced ws sources sinks fs) net.size) (λ v. Unbalanced v (pos (into ws fs v)) (pos (out_of ws fs v)))
     (unless (first_open ws (has cut) sources sinks) (λ m. Open m.0 m.1)
-    (cond (int_eq (value ws fs sources) (pos (weight ws (has cut)))) None
-    (Some (Unequal (value ws fs sources) (weight ws (has cut))))))))
+    (sums_fault ws sources cut fs))))
 
 -- the cut separates; the flow keeps rooms, balances, and carries the cut's weight
 pub record Accepts (net : NetView) (sources sinks cut : List ℕ) (fs : List ℤ) : Type 0 where

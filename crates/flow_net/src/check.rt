@@ -1,19 +1,66 @@
 //! The check of a cut and the flow that shows it. Nothing here takes memory.
 
-ghost use Rattle.std.specs.Prelude.{◌≡◌, ℕ, ◌<◌, ◌≤◌, length, IsOk, ◌↔◌, true, false};
-ghost use Rattle.flow_net.specs.Net.{IsAscending};
+ghost use Rattle.std.specs.Prelude.{◌≡◌, ℕ, ◌<◌, ◌≤◌, length, map, pos, IsOk, ◌↔◌, true, false};
+ghost use Rattle.flow_net.specs.Net.{IsAscending, wire_of};
+ghost use Rattle.flow_net.specs.declared.CutFault.TheVariants.{OverRoom, Unbalanced};
+ghost use Rattle.graph_model.specs.Flows.{amount, into, out_of};
 ghost use Rattle.graph_model.specs.Lists.{has};
 ghost use Rattle.std.specs.List.{All};
-ghost use Rattle.flow_net.specs.Verdict.{first_fault, result_of, Accepts};
+ghost use Rattle.flow_net.specs.Verdict.{first_fault, sums_fault, result_of, Accepts};
 
 use crate::balance::{first_unbalanced, into_vertex, out_of_vertex};
 use crate::carries::{first_over, value_of};
 use crate::cuts::{first_glue, weight_of_cut};
 use crate::joined::first_joined;
-use crate::{Cut, CutFault, Flow, Net};
+use crate::{Cut, CutFault, Flow, Link, Net};
+
+// the fault of an amount over its room
+fn over_room(amounts: &[i64], link: u32) -> CutFault
+    requires { link < length amounts.now }
+    ensures { result ≡ OverRoom link (amount amounts.now link) }
+{
+    CutFault::OverRoom {
+        link,
+        amount: amounts[link as usize],
+    }
+}
+
+// the fault of a vertex that isn't balanced
+fn unbalanced(links: &[Link], amounts: &[i64], vertex: u32) -> CutFault
+    requires few { length links.now ≤ 500000 }
+    requires amounts { length amounts.now ≡ length links.now }
+    ensures { result ≡ Unbalanced vertex (pos (into (map wire_of links.now) amounts.now vertex)) (pos (out_of (map wire_of links.now) amounts.now vertex)) }
+{
+    CutFault::Unbalanced {
+        vertex,
+        into: into_vertex(links, amounts, vertex) as i128,
+        out: out_of_vertex(links, amounts, vertex) as i128,
+    }
+}
+
+// the fault of a value that isn't the cut's weight, or Ok
+fn sums_verdict(
+    links: &[Link],
+    sources: &[u32],
+    chosen: &[u32],
+    amounts: &[i64],
+) -> Result<(), CutFault>
+    requires few { length links.now ≤ 500000 }
+    requires ascending { IsAscending chosen.now }
+    requires below { All (λ k. k < length links.now) chosen.now }
+    requires amounts { length amounts.now ≡ length links.now }
+    ensures { result ≡ result_of (sums_fault (map wire_of links.now) sources.now chosen.now amounts.now) }
+{
+    let value = value_of(links, amounts, sources);
+    let weight = weight_of_cut(links, chosen);
+    if value == weight as i128 {
+        Ok(())
+    } else {
+        Err(CutFault::Unequal { value, weight })
+    }
+}
 
 // the first fault, or Ok
-#[tactic(auto, unfolding(crate::specs::Verdict::first_fault))]
 fn verdict(
     net: &Net,
     sources: &[u32],
@@ -36,28 +83,15 @@ fn verdict(
         return Err(CutFault::CutsGlue { link });
     }
     if let Some(link) = first_over(links, amounts) {
-        return Err(CutFault::OverRoom {
-            link,
-            amount: amounts[link as usize],
-        });
+        return Err(over_room(amounts, link));
     }
     if let Some(vertex) = first_unbalanced(net.size(), links, amounts, sources, sinks) {
-        return Err(CutFault::Unbalanced {
-            vertex,
-            into: into_vertex(links, amounts, vertex) as i128,
-            out: out_of_vertex(links, amounts, vertex) as i128,
-        });
+        return Err(unbalanced(links, amounts, vertex));
     }
     if let Some((source, sink)) = first_joined(links, chosen, sources, sinks, seen) {
         return Err(CutFault::Open { source, sink });
     }
-    let value = value_of(links, amounts, sources);
-    let weight = weight_of_cut(links, chosen);
-    if value == weight as i128 {
-        Ok(())
-    } else {
-        Err(CutFault::Unequal { value, weight })
-    }
+    sums_verdict(links, sources, chosen, amounts)
 }
 
 /// Checks a cut by itself: Ok exactly where it separates the sources from the sinks, and the flow

@@ -29,8 +29,6 @@ pub mod check;
 mod cuts;
 pub mod joined;
 pub mod net;
-#[cfg(test)]
-mod tests;
 
 pub use check::check_cut;
 pub use net::{Net, is_net};

@@ -10,3 +10,5 @@ pub mod Climbing
 pub mod Queued
 pub mod Flowing
 pub mod Assembled
+pub mod Left
+pub mod Ends

@@ -36,8 +36,6 @@ mod phases;
 pub mod plain;
 mod rooms;
 mod search;
-#[cfg(test)]
-mod tests;
 mod walk;
 
 pub use cut::least_cut;
