@@ -22,8 +22,6 @@ mod mem_sink;
 mod mem_source;
 mod place;
 mod reading;
-#[cfg(test)]
-mod tests;
 mod traits;
 mod vec_words;
 mod words;

@@ -1,5 +1,4 @@
-//! A place that opens nothing for writing, nor what it doesn't have for reading. It tells no bytes, and its
-//! counts stand at their end.
+//! A place that opens nothing for writing. It tells no bytes, and its counts stand at their end.
 
 ghost use Rattle.std.specs.Prelude.{List, ℕ, [], None, ◌^◌, ◌-◌, true};
 ghost use Rattle.pcg_base.specs.Told.{Counts};
@@ -8,27 +7,10 @@ use crate::samples::{EDGES, ROOTS, SUPERVOXELS};
 use pcg_base::{MemSink, MemSource, Place, PlaceError};
 use std::alloc::Global;
 
-/// The two tables, and the requests where it has them.
+/// The usual tables and requests.
 #[derive(Drop)]
 pub struct ShutPlace {
     pub alloc: Global,
-    pub has_requests: bool,
-}
-
-impl ShutPlace {
-    /// The bytes at a name.
-    fn bytes_of(&self, name: &str) -> Option<&'static [u8]> {
-        if name == "supervoxels.csv" {
-            return Some(SUPERVOXELS);
-        }
-        if name == "edges.csv" {
-            return Some(EDGES);
-        }
-        if name == "first.req" && self.has_requests {
-            return Some(ROOTS);
-        }
-        None
-    }
 }
 
 impl Place for ShutPlace {
@@ -51,8 +33,10 @@ impl Place for ShutPlace {
     ghost left_at = { λ self name. [] };
 
     fn source_of(&mut self, name: &str) -> Result<MemSource, PlaceError> {
-        let Some(bytes) = self.bytes_of(name) else {
-            return Err(PlaceError::Failed);
+        let bytes = match name {
+            "supervoxels.csv" => SUPERVOXELS,
+            "edges.csv" => EDGES,
+            _ => ROOTS,
         };
         let Ok(bytes) = Vec::from_slice(self.alloc, bytes) else {
             return Err(PlaceError::NoMemory);

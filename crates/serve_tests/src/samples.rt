@@ -1,7 +1,4 @@
-//! What the tests run over: two tables, requests, and what a call makes of them.
-
-use std::alloc::Global;
-use std::test::Fail;
+//! What the tests run over: two tables and requests, and the texts that a call makes of them.
 
 pub const WORDS: &str =
     "rehearse --bits 8 --grid 2,1,1 --supervoxels supervoxels.csv --edges edges.csv --merge-affinity 1 --clock 1000,10 first";
@@ -23,20 +20,3 @@ pub const LOG: &[u8] =
 
 pub const SUMMARY: &[u8] =
     b"{\"accepted\":0,\"clients\":1,\"entries\":1,\"faults\":[],\"lines\":2,\"records\":24,\"refused\":0,\"roots\":2,\"status\":0}\n";
-
-/// The words of a command line.
-pub fn words_of(alloc: Global, text: &str) -> Result<Vec<Vec<u8>>, Fail> {
-    let mut words = Vec::new(alloc);
-    for word in text.split(' ') {
-        words.push(Vec::from_slice(alloc, word.as_bytes())?)?;
-    }
-    Ok(words)
-}
-
-/// What a call came to.
-#[derive(Drop)]
-pub struct Ran {
-    pub status: u8,
-    pub answers: Vec<u8>,
-    pub out: Vec<u8>,
-}
