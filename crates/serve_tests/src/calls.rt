@@ -1,7 +1,8 @@
 //! One call of the program, over a place and an output in memory.
 
 use crate::samples::{EDGES, LOG, ROOTS, SUPERVOXELS, WORDS};
-use pcg_base::{MemFile, MemPlace, MemSink, OpenGate, StepClock};
+use memory_devices::{MemFile, MemPlace, MemSink};
+use pcg_base::{OpenGate, StepClock};
 use pcg_serve::run;
 use std::alloc::Global;
 use std::test::Fail;

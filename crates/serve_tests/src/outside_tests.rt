@@ -1,8 +1,9 @@
 //! What the server meets of the outside, in memory.
 
+use memory_devices::{MemFile, MemPlace, MemSink, MemSource};
 use pcg_base::{
-    Clock, Gate, MemFile, MemPlace, MemSink, MemSource, OpenGate, Place, Point, ReadError, Sink,
-    StepClock, VecWords, Words, read_all, read_name, write_all,
+    Clock, Gate, OpenGate, Place, Point, ReadError, Sink, StepClock, VecWords, Words, read_all,
+    read_name, write_all,
 };
 use std::alloc::Global;
 use std::test::Fail;

@@ -4,7 +4,8 @@ ghost use Rattle.std.specs.Prelude.{List, ℕ, [], None, ◌^◌, ◌-◌, true}
 ghost use Rattle.pcg_base.specs.Told.{Counts};
 
 use crate::samples::{EDGES, ROOTS, SUPERVOXELS};
-use pcg_base::{MemSink, MemSource, Place, PlaceError};
+use memory_devices::{MemSink, MemSource};
+use pcg_base::{Place, PlaceError};
 use std::alloc::Global;
 
 /// The usual tables and requests.

@@ -3,7 +3,8 @@
 use crate::calls::{Outside, call, call_with, stops_so, usual, words_of};
 use crate::samples::WORDS;
 use crate::shut_place::ShutPlace;
-use pcg_base::{MemSink, OpenGate, StepClock};
+use memory_devices::MemSink;
+use pcg_base::{OpenGate, StepClock};
 use pcg_serve::run;
 use std::alloc::Global;
 use std::test::Fail;
