@@ -4,7 +4,7 @@ ghost use Rattle.pcg_base.specs.Causes.{Rose};
 ghost use Rattle.pcg_base.specs.Told.{KeepsFiles, TellsAt, LosesFront, IsLonger, IsLongerAt, LeavesNone, ReadsSource};
 
 use crate::place::{Place, PlaceError};
-use crate::traits::Source;
+use crate::traits::{NoMemory, Source};
 use std::alloc::Global;
 
 /// Why a stream was not read whole.
@@ -18,6 +18,66 @@ pub enum ReadError {
     NoMemory,
 }
 
+/// How the reading of a stream ended.
+#[derive(Clone, Copy, Debug)]
+pub enum StreamEnd {
+    /// It was read to its end.
+    Whole,
+    /// A read failed.
+    Broken,
+    /// It has more bytes than the limit.
+    TooLong,
+}
+
+/// What was read of a stream.
+#[derive(Drop)]
+pub struct Stream {
+    /// The bytes, at most as many as the limit.
+    pub bytes: Vec<u8>,
+    /// How the reading ended.
+    pub end: StreamEnd,
+}
+
+/// Reads a stream to its end, its fault or the limit. Whatever it answers, a front of what was left
+/// is gone.
+pub fn read_stream<S: Source>(alloc: Global, from: &mut S, limit: u64) -> Result<Stream, NoMemory>
+    ensures size { IfOk result (λ s. length s.bytes.items ≤ limit) }
+    ensures whole { IfOk result (λ s. s.end ≡ StreamEnd.Whole → Consumes (S.left from.old) (S.left from.new) s.bytes.items × IsAtEnd (S.left from.new)) }
+    ensures broken { IfOk result (λ s. s.end ≡ StreamEnd.Broken → Consumes (S.left from.old) (S.left from.new) s.bytes.items × Rose (S.faults from.old) (S.faults from.new)) }
+    ensures long { IfOk result (λ s. s.end ≡ StreamEnd.TooLong → IsLonger (S.left from.old) limit) }
+    ensures later { S.faults from.old ≤ S.faults from.new }
+    ensures front { LosesFront (S.left from.old) (S.left from.new) }
+{
+    let mut bytes = Vec::new(alloc);
+    let mut piece = [0u8; 4096];
+    for turn in 0..u64::MAX {
+        let count = match from.read(&mut piece) {
+            Ok(count) => count,
+            Err(_) => return Ok(Stream {
+                bytes,
+                end: StreamEnd::Broken,
+            }),
+        };
+        if count == 0 {
+            return Ok(Stream {
+                bytes,
+                end: StreamEnd::Whole,
+            });
+        }
+        if count as u64 > limit - bytes.len() as u64 {
+            return Ok(Stream {
+                bytes,
+                end: StreamEnd::TooLong,
+            });
+        }
+        match bytes.extend_from_slice(&piece[..count]) {
+            Ok(()) => {}
+            Err(_) => return Err(NoMemory),
+        }
+    }
+    unreachable!()
+}
+
 /// Reads all bytes up to the end, at most `limit` of them. Whatever it answers, a front of what
 /// was left is gone.
 pub fn read_all<S: Source>(alloc: Global, from: &mut S, limit: u64) -> Result<Vec<u8>, ReadError>
@@ -29,25 +89,15 @@ pub fn read_all<S: Source>(alloc: Global, from: &mut S, limit: u64) -> Result<Ve
     ensures later { S.faults from.old ≤ S.faults from.new }
     ensures front { LosesFront (S.left from.old) (S.left from.new) }
 {
-    let mut all = Vec::new(alloc);
-    let mut piece = [0u8; 4096];
-    for turn in 0..u64::MAX {
-        let count = match from.read(&mut piece) {
-            Ok(count) => count,
-            Err(_) => return Err(ReadError::Failed),
-        };
-        if count == 0 {
-            return Ok(all);
-        }
-        if count as u64 > limit - all.len() as u64 {
-            return Err(ReadError::TooLong);
-        }
-        match all.extend_from_slice(&piece[..count]) {
-            Ok(()) => {}
-            Err(_) => return Err(ReadError::NoMemory),
-        }
+    let Ok(stream) = read_stream(alloc, from, limit) else {
+        return Err(ReadError::NoMemory);
+    };
+    let Stream { bytes, end } = stream;
+    match end {
+        StreamEnd::Whole => Ok(bytes),
+        StreamEnd::Broken => Err(ReadError::Failed),
+        StreamEnd::TooLong => Err(ReadError::TooLong),
     }
-    unreachable!()
 }
 
 /// Opens a name, reads it whole, at most `limit` bytes of it, and keeps it back.

@@ -66,24 +66,3 @@ impl Words for VecWords {
         self.items[k as usize]
     }
 }
-
-#[cfg(test)]
-mod tests {
-    use super::*;
-    use std::prelude::HostRuntime;
-
-    #[test]
-    fn words_are_appended_and_overwritten(rt: HostRuntime) -> Result<(), NoMemory> {
-        let Ok(first) = vec![in rt.alloc(); 7, 8] else {
-            return Err(NoMemory);
-        };
-        let mut words = VecWords::new(first, 2)?;
-        words.push(9);
-        words.set(0, 18446744073709551615);
-        words.push(10);
-        assert_eq!(rt; words.len(), 4);
-        let read = [words.word(0), words.word(1), words.word(2), words.word(3)];
-        assert_eq!(rt; read, [18446744073709551615, 8, 9, 10]);
-        Ok(())
-    }
-}

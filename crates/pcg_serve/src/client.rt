@@ -12,9 +12,9 @@ ghost use Rattle.pcg_serve.specs.Ingests.{AreWords, IsIngest, log_of};
 use crate::ingest::Ingest;
 use crate::session::{Session, serve};
 use crate::stops::{FileName, Stop};
-use crate::streams::{StreamEnd, ended_part, read_stream};
+use crate::streams::ended_part;
 use crate::summary::Fault;
-use pcg_base::{NoMemory, Place, PlaceError, Sink, Source, VecWords};
+use pcg_base::{NoMemory, Place, PlaceError, Sink, Source, StreamEnd, VecWords, read_stream};
 use pcg_words::{Name, answer_file, request_file};
 use std::alloc::Global;
 
@@ -22,7 +22,7 @@ use std::alloc::Global;
 pub const LIMIT: u64 = 65536;
 
 /// How a session ended.
-#[derive(Clone, Copy, Debug, PartialEq, Eq)]
+#[derive(Clone, Copy)]
 pub struct Ended {
     /// What it did.
     pub session: Session,

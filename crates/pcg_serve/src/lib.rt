@@ -21,14 +21,3 @@ mod tables;
 pub use calls::run;
 pub use pcg_words::{Job, Name, Names, RehearseJob, WordsError, read_words};
 pub use rehearsal::run_rehearse;
-
-#[cfg(test)]
-mod device_tests;
-#[cfg(test)]
-mod read_tests;
-#[cfg(test)]
-mod samples;
-#[cfg(test)]
-mod shut_place;
-#[cfg(test)]
-mod tests;

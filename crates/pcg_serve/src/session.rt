@@ -15,7 +15,7 @@ use std::alloc::Global;
 use timestamp_reader::answer;
 
 /// What a session came to.
-#[derive(Clone, Copy, Debug, PartialEq, Eq)]
+#[derive(Clone, Copy)]
 pub struct Session {
     /// How many replies were written.
     pub lines: u32,

@@ -14,7 +14,7 @@ use request_lines::Page;
 use table_ingest::{Cause, Table};
 
 /// Which file a fault line speaks of.
-#[derive(Clone, Copy, Debug, PartialEq, Eq)]
+#[derive(Clone, Copy)]
 pub enum FileName {
     /// The supervoxel table.
     Supervoxels,
@@ -27,7 +27,7 @@ pub enum FileName {
 }
 
 /// Why a call stopped before its sessions. `client` is 0 for a file that belongs to no client.
-#[derive(Clone, Copy, Debug, PartialEq, Eq)]
+#[derive(Clone, Copy)]
 pub enum Stop {
     /// The words are no job.
     BadWords,

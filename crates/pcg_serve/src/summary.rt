@@ -11,7 +11,7 @@ use pcg_base::{Failed, Sink};
 use request_lines::{Page, Written, put_list};
 
 /// How a session may end before its lines do.
-#[derive(Clone, Copy, Debug, PartialEq, Eq)]
+#[derive(Clone, Copy)]
 pub enum Fault {
     /// A read of the client's requests failed.
     ReadFault,
@@ -20,7 +20,7 @@ pub enum Fault {
 }
 
 /// A client whose session ended in a fault.
-#[derive(Clone, Copy, Debug, PartialEq, Eq, Drop)]
+#[derive(Clone, Copy, Drop)]
 pub struct ClientFault {
     /// The client's number, counted from 1.
     pub client: u32,
@@ -29,7 +29,7 @@ pub struct ClientFault {
 }
 
 /// What a call came to.
-#[derive(Debug, Drop)]
+#[derive(Drop)]
 pub struct Summary {
     /// How many edits were accepted.
     pub accepted: u32,

@@ -1,6 +1,0 @@
-use Rattle.std.proofs.Common.{◌≡◌, map}
-use Rattle.pcg_base.specs.Kept.{unopened_file}
-use Rattle.pcg_base.proofs.kept.keep_all.Given as goal
-
-abbrev pub invariant-loop-file : goal.invariant-loop-file
-invariant-loop-file l = l.kept.items ≡ map unopened_file l.yielded

@@ -1,0 +1,29 @@
+//! Tests of what the server meets of the outside, and of the program's call over it. Nothing here is
+//! proved but the tests.
+//!
+//! - `outside_tests`: streams, places, times, gates and words in memory, each at its happy path and at
+//!   calls that fail
+//! - `reply_tests`: one stream of requests with a line for each reply, word by word, over a small log
+//!   and over a base of one supervoxel; tables of other forms; streams that break off
+//! - `stop_tests`: the fault lines of wrong words, of tables, of bases that are too large, and of files
+//!   that don't open
+//! - `device_tests`: each single call of a device fails in turn, over devices that take a byte a call
+//!   and over ones that take all at once
+//! - `samples`, `calls`: two tables, requests, and what a call makes of them
+//! - `shut_place`: a place that opens nothing for writing
+#![tactic(auto)]
+
+#[cfg(test)]
+mod calls;
+#[cfg(test)]
+mod device_tests;
+#[cfg(test)]
+mod outside_tests;
+#[cfg(test)]
+mod reply_tests;
+#[cfg(test)]
+mod samples;
+#[cfg(test)]
+mod shut_place;
+#[cfg(test)]
+mod stop_tests;
