@@ -11,7 +11,7 @@ pub struct Incoming<R: Read + Drop> {
 }
 
 impl<R: Read + Drop> Incoming<R> {
-    ghost use Rattle.pcg.specs.Faults.{faults_in};
+    ghost use Rattle.system_devices.specs.Faults.{faults_in};
 
     /// A source that has not failed yet.
     pub fn new(from: R) -> Incoming<R>
@@ -30,7 +30,7 @@ impl<R: Read + Drop> Incoming<R> {
 
 impl<R: Read + Drop> Source for Incoming<R> {
     ghost use Rattle.std.specs.Prelude.{None};
-    ghost use Rattle.pcg.specs.Faults.{faults_in};
+    ghost use Rattle.system_devices.specs.Faults.{faults_in};
 
     ghost left = { λ _. None };
 
@@ -58,7 +58,7 @@ pub struct Outgoing<W: Write + Drop> {
 }
 
 impl<W: Write + Drop> Outgoing<W> {
-    ghost use Rattle.pcg.specs.Faults.{faults_out};
+    ghost use Rattle.system_devices.specs.Faults.{faults_out};
 
     /// A sink that has not failed yet.
     pub fn new(to: W) -> Outgoing<W>
@@ -77,7 +77,7 @@ impl<W: Write + Drop> Outgoing<W> {
 
 impl<W: Write + Drop> Sink for Outgoing<W> {
     ghost use Rattle.std.specs.Prelude.{None};
-    ghost use Rattle.pcg.specs.Faults.{faults_out};
+    ghost use Rattle.system_devices.specs.Faults.{faults_out};
 
     ghost held = { λ _. None };
 

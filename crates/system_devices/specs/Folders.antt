@@ -1,8 +1,8 @@
 -- What a folder has counted.
 use Rattle.std.specs.Prelude.{ℕ, List}
-use Rattle.pcg.specs.declared.folder.Folder.{Folder}
-use Rattle.pcg.specs.declared.seen.Seen.{Seen}
-use Rattle.pcg.specs.Seen.{seen_at}
+use Rattle.system_devices.specs.declared.folder.Folder.{Folder}
+use Rattle.system_devices.specs.declared.seen.Seen.{Seen}
+use Rattle.system_devices.specs.Seen.{seen_at}
 
 abbrev pub read_faults_of : {R F : Type 0} → Folder R F → ℕ
 read_faults_of p = p.read_faults

@@ -2,7 +2,7 @@
 use Rattle.std.specs.Prelude.{ℕ, List, false, IsSome, String, unwrap_or}
 use Rattle.std.specs.BTreeMap.{BTreeMap, get_by_text}
 use Rattle.pcg_base.specs.Told.{Counts}
-use Rattle.pcg.specs.declared.seen.Seen.{Seen}
+use Rattle.system_devices.specs.declared.seen.Seen.{Seen}
 
 -- of a name that was never met
 abbrev pub unseen : Seen

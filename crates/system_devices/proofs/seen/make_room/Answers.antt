@@ -1,6 +1,6 @@
 use Rattle.std.proofs.Common.{arith}
 use Rattle.std.proofs.lemmas.Map.Text.{text_keys}
-use Rattle.pcg.proofs.seen.make_room.Goals as goal
+use Rattle.system_devices.proofs.seen.make_room.Goals as goal
 
 pub returns-clause-same : goal.returns-clause-same
 returns-clause-same c = grind (arith, text_keys)

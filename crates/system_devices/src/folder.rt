@@ -1,6 +1,6 @@
 ghost use Rattle.std.specs.Prelude.{◌≡◌, ℕ, List};
-ghost use Rattle.pcg.specs.Folders.{read_faults_of, write_faults_of, seen_in};
-ghost use Rattle.pcg.specs.Seen.{unseen};
+ghost use Rattle.system_devices.specs.Folders.{read_faults_of, write_faults_of, seen_in};
+ghost use Rattle.system_devices.specs.Seen.{unseen};
 
 use crate::seen::{Names, look, make_room, put};
 use crate::streams::{Incoming, Outgoing};
@@ -40,8 +40,8 @@ impl<'a, R: Files<File = File>> Folder<'a, R> {
 
 impl<'a, R: Files<File = File>> Place for Folder<'a, R> {
     ghost use Rattle.std.specs.Prelude.{None, []};
-    ghost use Rattle.pcg.specs.Folders.{read_faults_of, write_faults_of, seen_in};
-    ghost use Rattle.pcg.specs.Seen.{counts_of};
+    ghost use Rattle.system_devices.specs.Folders.{read_faults_of, write_faults_of, seen_in};
+    ghost use Rattle.system_devices.specs.Seen.{counts_of};
 
     type In = Incoming<File>;
 

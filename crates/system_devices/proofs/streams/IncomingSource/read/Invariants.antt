@@ -1,5 +1,5 @@
 use Rattle.std.proofs.Common.{◌≡◌}
-use Rattle.pcg.proofs.streams.OutgoingSink.write.Given as goal
+use Rattle.system_devices.proofs.streams.IncomingSource.read.Given as goal
 
 abbrev pub invariant-loop : goal.invariant-loop
 invariant-loop g l = l.self.faults ≡ l.fn.self.faults

@@ -1,7 +1,7 @@
 -- How often the program's streams have failed.
 use Rattle.std.specs.Prelude.{ℕ}
-use Rattle.pcg.specs.declared.streams.Incoming.{Incoming}
-use Rattle.pcg.specs.declared.streams.Outgoing.{Outgoing}
+use Rattle.system_devices.specs.declared.streams.Incoming.{Incoming}
+use Rattle.system_devices.specs.declared.streams.Outgoing.{Outgoing}
 
 abbrev pub faults_in : {R : Type 0} → Incoming R → ℕ
 faults_in s = s.faults

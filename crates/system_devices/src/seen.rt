@@ -1,5 +1,5 @@
 ghost use Rattle.std.specs.Prelude.{◌≡◌, ◌≢◌, ℕ, List, OnOk, OnErr};
-ghost use Rattle.pcg.specs.Seen.{seen_at, IsKnown};
+ghost use Rattle.system_devices.specs.Seen.{seen_at, IsKnown};
 
 use pcg_base::NoMemory;
 use std::alloc::Global;
