@@ -41,8 +41,6 @@ mod lists;
 mod numbering;
 mod places;
 mod rising;
-#[cfg(test)]
-mod tests;
 
 pub use building::build;
 pub use chunking::{base_chunks, base_nodes, chunk_count};

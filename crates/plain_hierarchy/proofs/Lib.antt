@@ -3,4 +3,3 @@ pub mod Places
 pub mod Ingests
 pub mod Counts
 pub mod Fitting
-pub mod Samples

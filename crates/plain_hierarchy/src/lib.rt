@@ -23,8 +23,6 @@ mod laws;
 mod lists;
 mod nodes;
 mod records;
-#[cfg(test)]
-mod tests;
 
 pub use components::component;
 pub use entry::first_entry;

@@ -1,0 +1,76 @@
+//! Tests of rows, of reads from them, and of the rows that are built of a base.
+//!
+//! Each read call is asked of the words of one log, in which a merge is undone and done again with
+//! another one in between: `find`, `chunk`, `supervoxel`, `node`, `ended`, `children`, `leaves`,
+//! `first_node`, `next_node`, `last_node`, `last_version`, `parent_at`, `root_at` and `path_at` of
+//! each node, chunk and supervoxel and of ids that aren't there, `find_edge`, `last_edge`,
+//! `last_change`, `state_at`, `edges_of`, `changed` and `next_change` of edges and changes, `length`,
+//! `head`, `entry_spot`, `asked`, `first_change`, `all_changed`, `last_about`, `prefix_at` and `entry`
+//! of entries and times, and whole replies of `answer`. What is wanted was worked out by a plain
+//! program that replays the log. No entry of it names or changes more than one pair, so `next_change`
+//! finds none. The contracts promise the same of every log; these show the calls at work.
+//!
+//! The words of small logs stand in `specs/Samples`, written by hand from the table of records.
+//! `worked_words` shows that the definitions give them. A base that is read from its tables is built
+//! into the hand-written words, and with room for a record too few it isn't.
+//!
+//! Then 260 bases are drawn, the same in each run: 1 to 14 supervoxels, up to 27 edges of glue,
+//! active or not, in grids from one chunk to four along each axis, with coordinates of 8 and 16 bits
+//! and layouts of both versions. What plain_hierarchy finds by traversal of the base alone is what is
+//! wanted of hierarchy_build's words and timestamp_reader's replies from them: how many records there
+//! are, the entry of the ingest, roots, paths and leaves, and each refusal. Then each word of each
+//! record of an edge is written to 0, and all replies are asked for again: they are owed from the
+//! nodes and their links alone. A failure names the base and the first subject that differs.
+//!
+//! - `samples`, `names`: words of two logs, and names of numbers that stand in them
+//! - `calls`, `entry_calls`: each call, where what it requires is there
+//! - `node_checks`, `edge_checks`, `entry_checks`: whether calls answer what is wanted of many records
+//! - `word_tests`, `node_tests`, `edge_tests`, `entry_tests`, `reply_tests`: the tests of the samples
+//! - `datasets`, `tables`: what is drawn
+//! - `wanted`: what the plain program finds
+//! - `reads`, `replies`: one read, and whether its reply is what is wanted
+//! - `base_checks`: all reads of a subject
+//! - `emptying`: words without their records of edges
+//! - `base_tests`: the bases, one after the other, and a hand-written one
+#![tactic(auto)]
+
+#[cfg(test)]
+mod base_checks;
+#[cfg(test)]
+mod base_tests;
+#[cfg(test)]
+mod calls;
+#[cfg(test)]
+mod datasets;
+#[cfg(test)]
+mod edge_checks;
+#[cfg(test)]
+mod edge_tests;
+#[cfg(test)]
+mod emptying;
+#[cfg(test)]
+mod entry_calls;
+#[cfg(test)]
+mod entry_checks;
+#[cfg(test)]
+mod entry_tests;
+#[cfg(test)]
+mod names;
+#[cfg(test)]
+mod node_checks;
+#[cfg(test)]
+mod node_tests;
+#[cfg(test)]
+mod reads;
+#[cfg(test)]
+mod replies;
+#[cfg(test)]
+mod reply_tests;
+#[cfg(test)]
+mod samples;
+#[cfg(test)]
+mod tables;
+#[cfg(test)]
+mod wanted;
+#[cfg(test)]
+mod word_tests;
