@@ -1,4 +1,4 @@
-//! Each call at the place of a record, where a record of its kind stands there.
+//! The calls at the place of a record, where a record of their kind stands there.
 
 ghost use Rattle.std.specs.Prelude.{◌≡◌, true};
 ghost use Rattle.row_tests.specs.Kinds.{HasKind, IsOwner, IsSample};
@@ -46,111 +46,91 @@ fn is_owner(w: &mut VecWords, place: u32) -> bool
     is_kind(w, place, NODE) || is_kind(w, place, SUPERVOXEL)
 }
 
-pub fn node_at(w: &mut VecWords, place: u32) -> Option<NodeRow>
+/// A node, the next one in its chunk, and the entry below the prefix that retired it.
+pub fn node_row(
+    w: &mut VecWords,
+    place: u32,
+    prefix: u32,
+) -> Option<(NodeRow, Option<Spot>, Option<u32>)>
     requires sample { IsSample w.old.words }
     ensures same { w.new ≡ w.old }
 {
     if is_kind(w, place, NODE) {
-        Some(node(w, Spot(place)))
+        let row = node(w, Spot(place));
+        let next = next_node(w, Spot(place));
+        let end = ended(w, Spot(place), prefix);
+        Some((row, next, end))
     } else {
         None
     }
 }
 
-pub fn ended_at(w: &mut VecWords, place: u32, prefix: u32) -> Option<u32>
+/// The children and the leaves of a node.
+pub fn lists_at(alloc: Global, w: &mut VecWords, place: u32) -> Result<Option<(Ids, Ids)>, NoMemory>
     requires sample { IsSample w.old.words }
     ensures same { w.new ≡ w.old }
 {
     if is_kind(w, place, NODE) {
-        ended(w, Spot(place), prefix)
+        let below = children(alloc, w, Spot(place))?;
+        let all = leaves(alloc, w, Spot(place))?;
+        Ok(Some((below, all)))
     } else {
-        None
+        Ok(None)
     }
 }
 
-pub fn next_at(w: &mut VecWords, place: u32) -> Option<Spot>
-    requires sample { IsSample w.old.words }
-    ensures same { w.new ≡ w.old }
-{
-    if is_kind(w, place, NODE) {
-        next_node(w, Spot(place))
-    } else {
-        None
-    }
-}
-
-pub fn children_at(alloc: Global, w: &mut VecWords, place: u32) -> Result<Ids, NoMemory>
-    requires sample { IsSample w.old.words }
-    ensures same { w.new ≡ w.old }
-{
-    if is_kind(w, place, NODE) {
-        children(alloc, w, Spot(place))
-    } else {
-        Ok(Ids {
-            list: Vec::new(alloc),
-        })
-    }
-}
-
-pub fn leaves_at(alloc: Global, w: &mut VecWords, place: u32) -> Result<Ids, NoMemory>
-    requires sample { IsSample w.old.words }
-    ensures same { w.new ≡ w.old }
-{
-    if is_kind(w, place, NODE) {
-        leaves(alloc, w, Spot(place))
-    } else {
-        Ok(Ids {
-            list: Vec::new(alloc),
-        })
-    }
-}
-
-/// Of a node or a supervoxel.
-pub fn version_at(w: &mut VecWords, place: u32) -> Option<Spot>
+/// The parent of a node or a supervoxel, and its newest link.
+pub fn links_at(w: &mut VecWords, place: u32, prefix: u32) -> Option<(Option<Spot>, Option<Spot>)>
     requires sample { IsSample w.old.words }
     ensures same { w.new ≡ w.old }
 {
     if is_owner(w, place) {
-        last_version(w, Spot(place))
+        let parent = parent_at(w, Spot(place), prefix);
+        let last = last_version(w, Spot(place));
+        Some((parent, last))
     } else {
         None
     }
 }
 
-/// Of a node or a supervoxel.
-pub fn parent_of(w: &mut VecWords, place: u32, prefix: u32) -> Option<Spot>
-    requires sample { IsSample w.old.words }
-    ensures same { w.new ≡ w.old }
-{
-    if is_owner(w, place) {
-        parent_at(w, Spot(place), prefix)
-    } else {
-        None
-    }
-}
-
-pub fn first_at(w: &mut VecWords, place: u32) -> Option<Spot>
+/// The first and the last node of a chunk.
+pub fn chunk_row(w: &mut VecWords, place: u32) -> Option<(Option<Spot>, Option<Spot>)>
     requires sample { IsSample w.old.words }
     ensures same { w.new ≡ w.old }
 {
     if is_kind(w, place, CHUNK) {
-        first_node(w, Spot(place))
+        let first = first_node(w, Spot(place));
+        let last = last_node(w, Spot(place));
+        Some((first, last))
     } else {
         None
     }
 }
 
-pub fn last_at(w: &mut VecWords, place: u32) -> Option<Spot>
+/// The nodes of a supervoxel in the two layers, and its root; `None` at prefixes that the log has not.
+pub fn nodes_at(w: &mut VecWords, place: u32, prefix: u32) -> Option<[u64; 3]>
     requires sample { IsSample w.old.words }
     ensures same { w.new ≡ w.old }
 {
-    if is_kind(w, place, CHUNK) {
-        last_node(w, Spot(place))
+    let count = length(w);
+    if prefix < 1 {
+        return None;
+    }
+    if count < prefix {
+        return None;
+    }
+    if is_kind(w, place, SUPERVOXEL) {
+        let path = path_at(w, Spot(place), prefix);
+        let root = root_at(w, Spot(place), prefix);
+        let lower = path.nodes[0];
+        let upper = path.nodes[1];
+        Some([lower.0, upper.0, root.0])
     } else {
         None
     }
 }
 
+/// The last edge of a supervoxel.
 pub fn edge_at(w: &mut VecWords, place: u32) -> Option<Spot>
     requires sample { IsSample w.old.words }
     ensures same { w.new ≡ w.old }
@@ -180,70 +160,43 @@ pub fn edges_at(
     }
 }
 
-pub fn change_at(w: &mut VecWords, place: u32) -> Option<Spot>
+/// The last change of an edge, and its state.
+pub fn edge_row(w: &mut VecWords, place: u32, prefix: u32) -> Option<(Option<Spot>, bool)>
     requires sample { IsSample w.old.words }
     ensures same { w.new ≡ w.old }
 {
     if is_kind(w, place, EDGE) {
-        last_change(w, Spot(place))
+        let last = last_change(w, Spot(place));
+        let active = state_at(w, Spot(place), prefix);
+        Some((last, active))
     } else {
         None
     }
 }
 
-pub fn is_active(w: &mut VecWords, place: u32, prefix: u32) -> bool
-    requires sample { IsSample w.old.words }
-    ensures same { w.new ≡ w.old }
-{
-    if is_kind(w, place, EDGE) {
-        state_at(w, Spot(place), prefix)
-    } else {
-        false
-    }
-}
-
-pub fn changed_at(w: &mut VecWords, place: u32) -> Option<Changed>
+/// What a change says, and the next one of its entry.
+pub fn change_row(w: &mut VecWords, place: u32) -> Option<(Changed, Option<Spot>)>
     requires sample { IsSample w.old.words }
     ensures same { w.new ≡ w.old }
 {
     if is_kind(w, place, CHANGE) {
-        Some(changed(w, Spot(place)))
+        let pair = changed(w, Spot(place));
+        let next = next_change(w, Spot(place));
+        Some((pair, next))
     } else {
         None
     }
 }
 
-pub fn following(w: &mut VecWords, place: u32) -> Option<Spot>
+/// The places of the records of an id: of a supervoxel or a node, of a chunk, and of a supervoxel.
+pub fn places_of(w: &mut VecWords, id: u64) -> (Option<Spot>, Option<Spot>, Option<Spot>)
     requires sample { IsSample w.old.words }
     ensures same { w.new ≡ w.old }
 {
-    if is_kind(w, place, CHANGE) {
-        next_change(w, Spot(place))
-    } else {
-        None
-    }
-}
-
-/// The place of the record of a supervoxel or a node.
-pub fn place_of(w: &mut VecWords, id: u64) -> Option<Spot>
-    requires sample { IsSample w.old.words }
-    ensures same { w.new ≡ w.old }
-{
-    find(w, NodeId(id))
-}
-
-pub fn chunk_of(w: &mut VecWords, id: u64) -> Option<Spot>
-    requires sample { IsSample w.old.words }
-    ensures same { w.new ≡ w.old }
-{
-    chunk(w, NodeId(id))
-}
-
-pub fn supervoxel_of(w: &mut VecWords, id: u64) -> Option<Spot>
-    requires sample { IsSample w.old.words }
-    ensures same { w.new ≡ w.old }
-{
-    supervoxel(w, id)
+    let any = find(w, NodeId(id));
+    let of_chunk = chunk(w, NodeId(id));
+    let of_supervoxel = supervoxel(w, id);
+    (any, of_chunk, of_supervoxel)
 }
 
 pub fn edge_of(w: &mut VecWords, a: u64, b: u64) -> Option<Spot>
@@ -257,27 +210,4 @@ pub fn edge_of(w: &mut VecWords, a: u64, b: u64) -> Option<Spot>
             b: NodeId(b),
         },
     )
-}
-
-/// The nodes of a supervoxel in the two layers, and its root; `None` at prefixes that the log has not.
-pub fn nodes_at(w: &mut VecWords, place: u32, prefix: u32) -> Option<[u64; 3]>
-    requires sample { IsSample w.old.words }
-    ensures same { w.new ≡ w.old }
-{
-    let count = length(w);
-    if prefix < 1 {
-        return None;
-    }
-    if count < prefix {
-        return None;
-    }
-    if is_kind(w, place, SUPERVOXEL) {
-        let path = path_at(w, Spot(place), prefix);
-        let root = root_at(w, Spot(place), prefix);
-        let lower = path.nodes[0];
-        let upper = path.nodes[1];
-        Some([lower.0, upper.0, root.0])
-    } else {
-        None
-    }
 }

@@ -27,80 +27,36 @@ pub fn count_at(w: &mut VecWords, t: u64) -> Result<u32, TimeRefusal>
     prefix_at(w, t)
 }
 
-pub fn head_of(w: &mut VecWords, n: u32) -> Option<Head>
+/// An entry's head, the places of its record and of its first change, and the last entry about it.
+pub fn entry_row(w: &mut VecWords, n: u32) -> Option<(Head, Spot, Option<Spot>, u32)>
     requires sample { IsSample w.old.words }
     ensures same { w.new ≡ w.old }
 {
     if n < length(w) {
-        Some(head(w, n))
+        let told = head(w, n);
+        let spot = entry_spot(w, n);
+        let first = first_change(w, n);
+        let last = last_about(w, n);
+        Some((told, spot, first, last))
     } else {
         None
     }
 }
 
-pub fn spot_of(w: &mut VecWords, n: u32) -> Option<Spot>
+/// What made an entry, what it changed, and the whole entry.
+pub fn entry_lists(
+    alloc: Global,
+    w: &mut VecWords,
+    n: u32,
+) -> Result<Option<(Asked, ChangedPairs, Entry)>, NoMemory>
     requires sample { IsSample w.old.words }
     ensures same { w.new ≡ w.old }
 {
     if n < length(w) {
-        Some(entry_spot(w, n))
-    } else {
-        None
-    }
-}
-
-pub fn first_of(w: &mut VecWords, n: u32) -> Option<Spot>
-    requires sample { IsSample w.old.words }
-    ensures same { w.new ≡ w.old }
-{
-    if n < length(w) {
-        first_change(w, n)
-    } else {
-        None
-    }
-}
-
-pub fn last_of(w: &mut VecWords, op: u32) -> Option<u32>
-    requires sample { IsSample w.old.words }
-    ensures same { w.new ≡ w.old }
-{
-    if op < length(w) {
-        Some(last_about(w, op))
-    } else {
-        None
-    }
-}
-
-pub fn asked_of(alloc: Global, w: &mut VecWords, n: u32) -> Result<Asked, NoMemory>
-    requires sample { IsSample w.old.words }
-    ensures same { w.new ≡ w.old }
-{
-    if n < length(w) {
-        asked(alloc, w, n)
-    } else {
-        Ok(Asked::Ingest)
-    }
-}
-
-pub fn all_changed_of(alloc: Global, w: &mut VecWords, n: u32) -> Result<ChangedPairs, NoMemory>
-    requires sample { IsSample w.old.words }
-    ensures same { w.new ≡ w.old }
-{
-    if n < length(w) {
-        all_changed(alloc, w, n)
-    } else {
-        Ok(ChangedPairs {
-            list: Vec::new(alloc),
-        })
-    }
-}
-
-pub fn entry_of(alloc: Global, w: &mut VecWords, n: u32) -> Result<Option<Entry>, NoMemory>
-    requires sample { IsSample w.old.words }
-    ensures same { w.new ≡ w.old }
-{
-    if n < length(w) {
-        Ok(Some(entry(alloc, w, n)?))
+        let request = asked(alloc, w, n)?;
+        let pairs = all_changed(alloc, w, n)?;
+        let whole = entry(alloc, w, n)?;
+        Ok(Some((request, pairs, whole)))
     } else {
         Ok(None)
     }

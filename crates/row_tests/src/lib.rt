@@ -1,14 +1,13 @@
 //! Tests of rows, of reads from them, and of the rows that are built of a base.
 //!
-//! Each read call is asked of the words of one log, in which a merge is undone and done again with
-//! another one in between: `find`, `chunk`, `supervoxel`, `node`, `ended`, `children`, `leaves`,
-//! `first_node`, `next_node`, `last_node`, `last_version`, `parent_at`, `root_at` and `path_at` of
-//! each node, chunk and supervoxel and of ids that aren't there, `find_edge`, `last_edge`,
-//! `last_change`, `state_at`, `edges_of`, `changed` and `next_change` of edges and changes, `length`,
-//! `head`, `entry_spot`, `asked`, `first_change`, `all_changed`, `last_about`, `prefix_at` and `entry`
-//! of entries and times, and whole replies of `answer`. What is wanted was worked out by a plain
-//! program that replays the log. No entry of it names or changes more than one pair, so `next_change`
-//! finds none. The contracts promise the same of every log; these show the calls at work.
+//! Each read call is asked once of the words of one log, in which a merge is undone and done again
+//! with another one in between: `find`, `chunk`, `supervoxel`, `node`, `ended`, `children`, `leaves`,
+//! `first_node`, `next_node`, `last_node` and `last_version` of a node, a chunk or a supervoxel,
+//! `find_edge`, `last_edge`, `last_change`, `changed` and `next_change` of an edge or a change,
+//! `length`, `head`, `entry_spot`, `asked`, `first_change`, `all_changed`, `last_about`, `prefix_at`
+//! and `entry` of entries and times, and whole replies of `answer`; `parent_at`, `root_at`, `path_at`,
+//! `state_at` and `edges_of` at each prefix. What is wanted was worked out by a plain program that
+//! replays the log. The contracts promise the same of every log; these show the calls at work.
 //!
 //! The words of small logs stand in `specs/Samples`, written by hand from the table of records.
 //! `worked_words` shows that the definitions give them. A base that is read from its tables is built
@@ -24,8 +23,8 @@
 //!
 //! - `samples`, `names`: words of two logs, and names of numbers that stand in them
 //! - `calls`, `entry_calls`: each call, where what it requires is there
-//! - `node_checks`, `edge_checks`, `entry_checks`: whether calls answer what is wanted of many records
-//! - `word_tests`, `node_tests`, `edge_tests`, `entry_tests`, `reply_tests`: the tests of the samples
+//! - `checks`: whether calls answer what is wanted, at each prefix and of lists
+//! - `word_tests`, `read_tests`, `reply_tests`: the tests of the samples
 //! - `datasets`, `tables`: what is drawn
 //! - `wanted`: what the plain program finds
 //! - `reads`, `replies`: one read, and whether its reply is what is wanted
@@ -41,25 +40,17 @@ mod base_tests;
 #[cfg(test)]
 mod calls;
 #[cfg(test)]
+mod checks;
+#[cfg(test)]
 mod datasets;
-#[cfg(test)]
-mod edge_checks;
-#[cfg(test)]
-mod edge_tests;
 #[cfg(test)]
 mod emptying;
 #[cfg(test)]
 mod entry_calls;
 #[cfg(test)]
-mod entry_checks;
-#[cfg(test)]
-mod entry_tests;
-#[cfg(test)]
 mod names;
 #[cfg(test)]
-mod node_checks;
-#[cfg(test)]
-mod node_tests;
+mod read_tests;
 #[cfg(test)]
 mod reads;
 #[cfg(test)]

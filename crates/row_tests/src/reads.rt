@@ -6,7 +6,7 @@ ghost use Rattle.row_tests.specs.Logs.{TellsLog};
 
 use crate::replies::{are_leaves, is_path, is_refused, is_root};
 use node_ids::NodeId;
-use op_model::{PathIds, Read, Refusal, Reply};
+use op_model::{PathIds, Read, Refusal};
 use pcg_base::{NoMemory, VecWords};
 use std::alloc::Global;
 use timestamp_reader::answer;
@@ -79,19 +79,4 @@ pub fn refuses(
 {
     let reply = answer(alloc, w, request);
     is_refused(&reply, refusal, seen)
-}
-
-/// Whether a read of changes isn't answered yet.
-#[tactic(auto, using(crate::proofs::Images::told_parents))]
-pub fn changes_are_unbuilt(alloc: Global, w: &mut VecWords, root: NodeId) -> bool
-    requires tells { TellsLog w.old.words }
-    ensures same { w.new ≡ w.old }
-{
-    let request = Read::Changes { root, at: None };
-    let reply = answer(alloc, w, &request);
-    is_unbuilt(&reply)
-}
-
-fn is_unbuilt(reply: &Reply) -> bool {
-    matches!(reply, Reply::NotBuilt)
 }

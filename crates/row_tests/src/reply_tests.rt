@@ -1,7 +1,7 @@
 //! Whole replies of the sample.
 
 use crate::names::*;
-use crate::reads::{changes_are_unbuilt, has_leaves, has_path, has_root, refuses};
+use crate::reads::{has_leaves, has_path, has_root, refuses};
 use crate::samples::regained;
 use node_ids::NodeId;
 use op_model::{PathIds, Read, Refusal};
@@ -35,7 +35,6 @@ fn reads_are_answered(rt: HostRuntime) -> Result<(), NoMemory> {
     assert!(rt; has_path(alloc, &mut w, NodeId(R), Some(1030), &path, 6));
     let three = [NodeId(P), NodeId(Q), NodeId(R)];
     assert!(rt; has_leaves(alloc, &mut w, NodeId(TOP_4), None, &three, 6)?);
-    assert!(rt; changes_are_unbuilt(alloc, &mut w, NodeId(TOP_8)));
     Ok(())
 }
 

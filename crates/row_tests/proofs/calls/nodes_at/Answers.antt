@@ -16,7 +16,7 @@ path_at-path-requires c =
     let count : c.length-count.result ≡ length s.log = c.length-count.ensures.is data_a base s.log i in
     let then : IsSample c.length-count.new.w.words = record { log = s.log; image = subst (λ w. Image data_a base s.log w.words) (sym c.length-count.ensures.same) s.image } in
     let h = supervoxel_kind _ then c.args.place (c.is_kind.ensures.is c.if-is_kind.true) in
-    let low = c.if-prefix-1.false in
+    let low = c.if-prefix-lt1.false in
     let high = c.if-count-prefix.false in
     record { supervoxel = (data_a, base, s.log, h.0, subst (λ w. ParentImage data_a base s.log w.words) (sym (c.is_kind.ensures.same ∙ c.length-count.ensures.same)) i, h.1, omega arith, omega arith) }
 
@@ -27,6 +27,6 @@ root_at-root-requires c =
     let count : c.length-count.result ≡ length s.log = c.length-count.ensures.is data_a base s.log i in
     let then : IsSample c.length-count.new.w.words = record { log = s.log; image = subst (λ w. Image data_a base s.log w.words) (sym c.length-count.ensures.same) s.image } in
     let h = supervoxel_kind _ then c.args.place (c.is_kind.ensures.is c.if-is_kind.true) in
-    let low = c.if-prefix-1.false in
+    let low = c.if-prefix-lt1.false in
     let high = c.if-count-prefix.false in
     record { supervoxel = (data_a, base, s.log, h.0, subst (λ w. ParentImage data_a base s.log w.words) (sym (c.path_at-path.ensures.same ∙ (c.is_kind.ensures.same ∙ c.length-count.ensures.same))) i, h.1, omega arith, omega arith) }
