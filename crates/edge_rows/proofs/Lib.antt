@@ -7,4 +7,3 @@ pub mod StateWalks
 pub mod Placing
 pub mod Listed
 pub mod Narrow
-pub mod SampleImages

@@ -17,8 +17,6 @@ mod finding;
 mod inserting;
 mod listing;
 mod states;
-#[cfg(test)]
-mod tests;
 
 pub use finding::{find_edge, last_change, last_edge};
 pub use listing::edges_of;

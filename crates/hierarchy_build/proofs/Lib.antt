@@ -8,4 +8,3 @@ pub mod AllLinks
 pub mod Totals
 pub mod OwnersOnce
 pub mod WholeRows
-pub mod SampleNodes

@@ -20,8 +20,6 @@ mod counting;
 mod errors;
 mod laws;
 mod linking;
-#[cfg(test)]
-mod tests;
 
 pub use building::build;
 pub use chunking::{base_chunks, base_nodes, chunk_count};

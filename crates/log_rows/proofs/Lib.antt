@@ -6,4 +6,3 @@ pub mod EntryParts
 pub mod ChainWalk
 pub mod ChangeWords
 pub mod ItemWords
-pub mod SampleImages

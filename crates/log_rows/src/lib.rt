@@ -18,8 +18,6 @@ mod changing;
 mod heads;
 mod marks;
 mod records;
-#[cfg(test)]
-mod tests;
 mod times;
 
 pub use asking::asked;

@@ -5,5 +5,4 @@ pub mod NodeWalks
 pub mod ChunkWalks
 pub mod Seeks
 pub mod Sought
-pub mod Samples
 pub mod Leaps

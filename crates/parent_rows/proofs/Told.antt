@@ -9,6 +9,7 @@ use Rattle.record_rows.specs.Chains.{version_of, child_of, node_in, is_node, has
 use Rattle.record_rows.specs.Chains.{aims}
 use Rattle.record_rows.specs.Images.{told}
 use Rattle.record_rows.specs.Words.{fixed_words}
+use Rattle.record_rows.specs.Sorted.{id_at}
 use Rattle.record_rows.specs.LogRows.{rows_of}
 use Rattle.record_rows.specs.Readings.{ParentImage, Holds, HoldsId, HoldsChunk, HoldsNode, place_of, first_place, next_place}
 use Rattle.graph_model.specs.Lists.{head_or}
@@ -108,6 +109,10 @@ module _ (d : Dataset) (b : Base) (log : List Entry) (words : List ℕ) (i : Par
   pub node_id : (p : ℕ) (n : Node) → HoldsNode d b log p n → Tells words p 1 n.id
   unfolding told fixed_words
   node_id p n h = (within d b log words i p (NodeRow n) h, told_fixed d b log words i p 1 (NodeRow n) h (omega arith) refl)
+
+  pub id_found : (p : ℕ) (n : Node) → HoldsNode d b log p n → id_at words p ≡ n.id
+  unfolding id_at
+  id_found p n h = (node_id p n h).1
 
   pub node_least : (p : ℕ) (n : Node) → HoldsNode d b log p n → Tells words p 2 (head_or 0 n.leaves)
   unfolding told fixed_words

@@ -12,11 +12,10 @@ ghost use Rattle.record_rows.specs.Walks.{is_chunk};
 ghost use Rattle.parent_rows.specs.Steps.{is_node_of};
 
 use crate::chunk_nodes::{first_node, next_node};
-use crate::nodes::id_of;
 use crate::runs::{layout, leap};
 use node_ids::NodeId;
 use pcg_base::Words;
-use row_words::{Spot, find_sorted, fixed, supervoxel};
+use row_words::{Spot, find_sorted, fixed, id_of, supervoxel};
 
 /// The record of a supervoxel or a node; `None` exactly where no entry of the log knows the id. A
 /// supervoxel is found by halving, and so is the chunk of a node; along the chunk's chain each run of

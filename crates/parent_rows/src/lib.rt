@@ -16,8 +16,6 @@ mod chunk_nodes;
 mod finding;
 mod nodes;
 mod runs;
-#[cfg(test)]
-mod tests;
 mod versions;
 
 pub use chunk_nodes::{first_node, last_node, next_node};

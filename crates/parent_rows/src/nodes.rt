@@ -130,12 +130,3 @@ fn entry_number<W: Words>(w: &mut W, spot: Spot) -> u32
 {
     fixed(w, spot, 3) as u32
 }
-
-// a node's id
-pub fn id_of<W: Words>(w: &mut W, spot: Spot) -> u64
-    requires node { (d : Dataset) × (b : Base) × (log : List Entry) × (n : Node) × ParentImage d b log (W.words w.old) × HoldsNode d b log spot n }
-    ensures same { w.new ≡ w.old }
-    ensures is { (d : Dataset) (b : Base) (log : List Entry) (n : Node) → ParentImage d b log (W.words w.old) → HoldsNode d b log spot n → result ≡ n.id }
-{
-    fixed(w, spot, 1)
-}

@@ -10,11 +10,11 @@ ghost use Rattle.record_rows.specs.Rows.{Node, Row};
 ghost use Rattle.record_rows.specs.Readings.{Holds, HoldsNode, ParentImage};
 ghost use Rattle.node_ids.specs.Ids.{parts_of};
 
-use crate::nodes::{first_child, id_of};
+use crate::nodes::first_child;
 use node_ids::{Layout, NodeId};
 use pcg_base::Words;
 use record_rows::layout_of;
-use row_words::{Spot, fixed, kind_of};
+use row_words::{Spot, fixed, id_of, kind_of};
 
 /// The last node of a node's run whose id is at most this one, which the node's own must be. It is
 /// found by steps that double, and then by halving, between the node and the first link of its

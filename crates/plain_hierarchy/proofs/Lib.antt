@@ -2,5 +2,4 @@ pub mod Growing
 pub mod Ingests
 pub mod Counts
 pub mod Fitting
-pub mod Samples
 pub mod Orders

@@ -23,8 +23,6 @@ mod leaves;
 mod lists;
 mod nodes;
 mod records;
-#[cfg(test)]
-mod tests;
 
 pub use entry::first_entry;
 pub use laws::small_bases_are_legal;

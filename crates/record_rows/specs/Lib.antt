@@ -9,6 +9,4 @@ pub mod Readings
 pub mod Walks
 pub mod Sorted
 pub mod Laws
-pub mod Samples
-pub mod Worked
 pub mod Inner

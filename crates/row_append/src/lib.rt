@@ -20,8 +20,6 @@ pub mod laws;
 mod pushing;
 mod putting;
 mod tail;
-#[cfg(test)]
-mod tests;
 
 pub use pushing::{
     NewLink, NewNode, push_chunk, push_edge, push_entry, push_header, push_link, push_node,

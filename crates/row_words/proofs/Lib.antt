@@ -1,3 +1,2 @@
 pub mod Halving
 pub mod Filling
-pub mod Rising

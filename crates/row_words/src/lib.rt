@@ -7,7 +7,7 @@
 //! - `applying`: the words with a draft applied
 //! - `draft`: new records on their way into the words
 //! - `rows`: the words of one record
-//! - `searching`: the record of an id, where ids ascend
+//! - `searching`: the id of a record, and the record of an id, where ids ascend
 #![tactic(auto)]
 
 mod applying;
@@ -15,11 +15,9 @@ mod draft;
 mod rows;
 mod searching;
 mod spot;
-#[cfg(test)]
-mod tests;
 
 pub use applying::apply;
 pub use draft::{Draft, DraftLink};
 pub use rows::{fixed, kind_of, pointer};
-pub use searching::{find_sorted, supervoxel};
+pub use searching::{find_sorted, id_of, supervoxel};
 pub use spot::Spot;

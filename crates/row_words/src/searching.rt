@@ -40,9 +40,10 @@ fn behind(first: Spot, k: u32) -> Spot
     Spot(first.0 + k)
 }
 
-/// The id of a record, which must lie within the words.
+/// The id of a supervoxel, a chunk or a node, which word 1 of its record is. The record must lie
+/// within the words.
 #[tactic(auto, unfolding(record_rows::specs::Sorted::id_at))]
-fn id_of<W: Words>(w: &mut W, spot: Spot) -> u64
+pub fn id_of<W: Words>(w: &mut W, spot: Spot) -> u64
     requires within { 8 * spot + 8 ≤ length (W.words w.old) }
     ensures same { w.new ≡ w.old }
     ensures is { result ≡ id_at (W.words w.old) spot }

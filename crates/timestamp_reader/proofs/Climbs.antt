@@ -14,6 +14,7 @@ use Rattle.record_rows.specs.Rows.{SupervoxelRow, NodeRow}
 use Rattle.record_rows.specs.Chains.{has_id}
 use Rattle.record_rows.specs.Images.{told}
 use Rattle.record_rows.specs.Words.{fixed_words}
+use Rattle.record_rows.specs.Sorted.{id_at}
 use Rattle.record_rows.specs.Versions.{child_at}
 use Rattle.record_rows.specs.Readings.{ParentImage, HoldsId, HoldsSupervoxel}
 use Rattle.record_rows.proofs.ImageFacts.{told_fixed}
@@ -22,11 +23,15 @@ use Rattle.record_rows.proofs.PrefixNodes.{layer_has}
 use Rattle.timestamp_reader.specs.Places.{IsBelow}
 
 -- the second word of a supervoxel's or a node's record is its id
-pub id_told : (d : Dataset) (b : Base) (log : List Entry) (words : List ℕ) → ParentImage d b log words → (p id : ℕ) → HoldsId d b log p id → get_or words (8 * p + 1) 0 ≡ id
+id_told : (d : Dataset) (b : Base) (log : List Entry) (words : List ℕ) → ParentImage d b log words → (p id : ℕ) → HoldsId d b log p id → get_or words (8 * p + 1) 0 ≡ id
 unfolding has_id told fixed_words
 id_told d b log words i p id (SupervoxelRow v, h, t) = told_fixed d b log words i p 1 (SupervoxelRow v) h (omega arith) refl ∙ eqb-true v id t
 id_told d b log words i p id (NodeRow n, h, t) = told_fixed d b log words i p 1 (NodeRow n) h (omega arith) refl ∙ eqb-true n.id id t
 id_told d b log words i p id (row, h, t) = absurd (false≢true t)
+
+pub id_at_told : (d : Dataset) (b : Base) (log : List Entry) (words : List ℕ) → ParentImage d b log words → (p id : ℕ) → HoldsId d b log p id → id_at words p ≡ id
+unfolding id_at
+id_at_told d b log words i p id h = id_told d b log words i p id h
 
 -- what stands below the node of layer 2 is the supervoxel
 pub start_at : (d : Dataset) (b : Base) (log at : List Entry) (p v : ℕ) → HoldsSupervoxel d b log p v → HoldsId d b log p (child_at d b at 2 v)

@@ -24,7 +24,7 @@ use Rattle.record_rows.proofs.ImageFacts.{within, below_few, told_fixed}
 use Rattle.parent_rows.proofs.NodeWalks.{AtChild, child_step, child_end}
 use Rattle.parent_rows.proofs.Told.{Tells}
 use Rattle.timestamp_reader.specs.Spreads.{AreNodes, row_leaves, place_leaves, id_leaves, spread, layer_of, weight, weights}
-use Rattle.timestamp_reader.proofs.Climbs.{id_told}
+use Rattle.timestamp_reader.proofs.Climbs.{id_at_told}
 use Rattle.timestamp_reader.proofs.ChildRows.{child_found, child_holds}
 use Rattle.timestamp_reader.proofs.LeafMeaning.{found_leaves}
 
@@ -65,11 +65,6 @@ module _ (d : Dataset) (b : Base) (log : List Entry) (words : List ℕ) (i : Par
       go : ((get_or words (8 * p) 0 ≡ 2) × HoldsSupervoxel d b log p id) ⊎ ((get_or words (8 * p) 0 ≡ 4) × (n : Node) × HoldsNode d b log p n × (n.id ≡ id)) → (n : Node) × HoldsNode d b log p n × (n.id ≡ id)
       go (inl s) = absurd (false≢true (sym t ∙ ap (λ k. eqb (k % 2 ^ 8) 2) s.0))
       go (inr n) = (n.1, n.2, n.3)
-
--- word 1 is the id
-pub id_at_told : (d : Dataset) (b : Base) (log : List Entry) (words : List ℕ) → ParentImage d b log words → (p id : ℕ) → HoldsId d b log p id → id_at words p ≡ id
-unfolding id_at
-id_at_told d b log words i p id h = id_told d b log words i p id h
 
 pub node_id_told : (d : Dataset) (b : Base) (log : List Entry) (words : List ℕ) → ParentImage d b log words → (p : ℕ) (n : Node) → HoldsNode d b log p n → id_at words p ≡ n.id
 unfolding has_id

@@ -2,8 +2,6 @@ pub mod Climbs
 pub mod EndLists
 pub mod FirstWalks
 pub mod EntryFacts
-pub mod Samples
-pub mod LeafSamples
 pub mod LeafParts
 pub mod NodeLeaves
 pub mod NodeChildren
@@ -14,5 +12,4 @@ pub mod LeafLaws
 pub mod ReadPrefixes
 pub mod MadeRoots
 pub mod Refused
-pub mod ReplySamples
 pub mod Ascents

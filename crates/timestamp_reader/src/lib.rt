@@ -15,20 +15,14 @@
 //! - `laws`: what holds of the records' leaves, the contract of a function that does nothing
 #![tactic(auto)]
 
-#[cfg(test)]
-mod answer_tests;
 mod answers;
 mod entries;
 mod first_roots;
 pub mod laws;
-#[cfg(test)]
-mod leaf_tests;
 mod node_leaves;
 mod nodes;
 mod ordering;
 mod roots;
-#[cfg(test)]
-mod tests;
 
 pub use answers::answer;
 pub use entries::entry;

@@ -12,11 +12,10 @@ ghost use Rattle.record_rows.specs.Readings.{Holds, HoldsId, HoldsNode, HoldsSup
 ghost use Rattle.record_rows.specs.Sorted.{id_at};
 ghost use Rattle.timestamp_reader.specs.Spreads.{AreNodes, id_leaves, spread, weight, weights};
 
-use crate::nodes::id_of;
 use node_ids::NodeId;
 use op_model::Ids;
 use pcg_base::{NoMemory, Words};
-use row_words::{Spot, fixed, kind_of, pointer};
+use row_words::{Spot, fixed, id_of, kind_of, pointer};
 use std::alloc::Global;
 
 /// The supervoxels of a node, as they were when it was made, ascending.
@@ -76,7 +75,7 @@ fn put_child<W: Words>(
 {
     let spot = child_place(w, link);
     if is_supervoxel(w, spot) {
-        put_id(list, id_of(w, spot))
+        put_id(list, NodeId(id_of(w, spot)))
     } else {
         put_spot(waiting, spot)
     }

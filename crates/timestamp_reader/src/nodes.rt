@@ -15,7 +15,7 @@ use op_model::PathIds;
 use parent_rows::parent_at;
 use pcg_base::Words;
 use record_rows::grid_of;
-use row_words::{Spot, fixed};
+use row_words::{Spot, fixed, id_of};
 
 /// The root of a supervoxel as the entries below the prefix left it. The prefix is a number of
 /// entries, from 1 to how many the log has.
@@ -31,7 +31,7 @@ pub fn root_at<W: Words>(w: &mut W, sv: Spot, prefix: u32) -> NodeId
         spot = above(w, spot, prefix);
         layer += 1;
     }
-    id_of(w, spot)
+    NodeId(id_of(w, spot))
 }
 
 /// The nodes of a supervoxel, from layer 2 to its root, as the entries below the prefix left them.
@@ -46,7 +46,7 @@ pub fn path_at<W: Words>(w: &mut W, sv: Spot, prefix: u32) -> PathIds
     let mut spot = sv;
     for place in 0..count {
         spot = above(w, spot, prefix);
-        nodes[place as usize] = id_of(w, spot);
+        nodes[place as usize] = NodeId(id_of(w, spot));
     }
     PathIds { count, nodes }
 }
@@ -69,13 +69,4 @@ fn above<W: Words>(w: &mut W, spot: Spot, prefix: u32) -> Spot
     ensures is { (d : Dataset) (b : Base) (log : List Entry) (layer v : ℕ) → IsBelow d b log (W.words w.old) prefix layer v spot → HoldsId d b log result (node d b (log_at d b log prefix) layer v) }
 {
     parent_at(w, spot, prefix).unwrap()
-}
-
-/// The id of the supervoxel or node whose record stands there.
-pub fn id_of<W: Words>(w: &mut W, spot: Spot) -> NodeId
-    requires id { (d : Dataset) × (b : Base) × (log : List Entry) × (id : ℕ) × ParentImage d b log (W.words w.old) × HoldsId d b log spot id }
-    ensures same { w.new ≡ w.old }
-    ensures is { (d : Dataset) (b : Base) (log : List Entry) (id : ℕ) → ParentImage d b log (W.words w.old) → HoldsId d b log spot id → result ≡ id }
-{
-    NodeId(fixed(w, spot, 1))
 }

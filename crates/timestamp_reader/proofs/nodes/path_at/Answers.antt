@@ -6,7 +6,8 @@ use Rattle.op_model.specs.Transcript.{log_at}
 use Rattle.record_rows.specs.Readings.{HoldsId, ParentImage}
 use Rattle.record_rows.specs.Versions.{child_at}
 use Rattle.timestamp_reader.specs.Places.{IsBelow}
-use Rattle.timestamp_reader.proofs.Climbs.{start_at, next_at, one_more, below_layer}
+use Rattle.timestamp_reader.proofs.Climbs.{start_at, next_at, one_more, below_layer, id_at_told}
+use Rattle.record_rows.proofs.ImageFacts.{within}
 use Rattle.timestamp_reader.proofs.nodes.path_at.Goals as goal
 
 pub loop-place-init : goal.loop-place-init
@@ -42,18 +43,10 @@ id_of-requires g c =
     let i = c.loop-place.invariant in
     let t : c.top_of-count.result ≡ top r.0 = c.top_of-count.ensures.is r.0 r.1 r.2 r.4 in
     let l = c.loop-place-test.true in
-    record {
-      id = (
-        r.0,
-        r.1,
-        r.2,
-        node r.0 r.1 (log_at r.0 r.1 r.2 c.args.prefix) (c.loop-place.place + 2) r.3,
-        subst (λ w. ParentImage r.0 r.1 r.2 (g.W.Words.words w)) (sym (c.above-spot.ensures.same ∙ i.same)) r.4,
-        c.above-spot.ensures.is r.0 r.1 r.2 (c.loop-place.place + 2) r.3
-            (subst (λ w. IsBelow r.0 r.1 r.2 (g.W.Words.words w) c.args.prefix (c.loop-place.place + 2) r.3 c.loop-place.spot) (sym i.same)
-            (below_layer r.0 r.1 r.2 _ c.args.prefix (c.loop-place.place + 2) r.3 c.args.sv c.loop-place.spot r.4 r.5 r.6 r.7 (omega arith) (omega arith) (i.at r.0 r.1 r.2 r.3 r.4 r.5 r.7))),
-      );
-    }
+    let at = c.above-spot.ensures.is r.0 r.1 r.2 (c.loop-place.place + 2) r.3
+    (subst (λ w. IsBelow r.0 r.1 r.2 (g.W.Words.words w) c.args.prefix (c.loop-place.place + 2) r.3 c.loop-place.spot) (sym i.same)
+    (below_layer r.0 r.1 r.2 _ c.args.prefix (c.loop-place.place + 2) r.3 c.args.sv c.loop-place.spot r.4 r.5 r.6 r.7 (omega arith) (omega arith) (i.at r.0 r.1 r.2 r.3 r.4 r.5 r.7))) in
+    record { within = within r.0 r.1 r.2 _ (subst (λ w. ParentImage r.0 r.1 r.2 (g.W.Words.words w)) (sym (c.above-spot.ensures.same ∙ i.same)) r.4) c.above-spot.result at.0 at.1 }
 
 pub loop-place-preserved : goal.loop-place-preserved
 loop-place-preserved g c =
@@ -75,7 +68,7 @@ loop-place-preserved g c =
           let range = c.top_of-count.ensures.range.1 in
           let long : length c.loop-place.nodes ≡ 17 = i.long in
           one_more (λ layer. node d b (log_at d b log c.args.prefix) layer v) c.loop-place.nodes c.loop-place.place c.id_of.result (omega arith) (i.shown d b log v image h m)
-          (c.id_of.ensures.is d b log _ (subst (λ w. ParentImage d b log (g.W.Words.words w)) (sym (c.above-spot.ensures.same ∙ i.same)) image)
+          (c.id_of.ensures.is ∙ id_at_told d b log _ (subst (λ w. ParentImage d b log (g.W.Words.words w)) (sym (c.above-spot.ensures.same ∙ i.same)) image) c.above-spot.result _
           (c.above-spot.ensures.is d b log (c.loop-place.place + 2) v
           (subst (λ w. IsBelow d b log (g.W.Words.words w) c.args.prefix (c.loop-place.place + 2) v c.loop-place.spot) (sym i.same)
           (below_layer d b log _ c.args.prefix (c.loop-place.place + 2) v c.args.sv c.loop-place.spot image h c.requires.supervoxel.6 m (omega arith) (omega arith) (i.at d b log v image h m)))));

@@ -3,7 +3,8 @@ use Rattle.op_model.specs.Chunks.{top}
 use Rattle.op_model.specs.Transcript.{log_at}
 use Rattle.record_rows.specs.Readings.{ParentImage}
 use Rattle.timestamp_reader.specs.Places.{IsBelow}
-use Rattle.timestamp_reader.proofs.Climbs.{start_at, next_at, end_at, below_layer}
+use Rattle.timestamp_reader.proofs.Climbs.{start_at, next_at, end_at, below_layer, id_at_told}
+use Rattle.record_rows.proofs.ImageFacts.{within}
 use Rattle.timestamp_reader.proofs.nodes.root_at.Goals as goal
 
 pub loop-layer-init : goal.loop-layer-init
@@ -48,11 +49,19 @@ loop-layer-preserved g c =
           (below_layer d b log _ c.args.prefix c.loop-layer.layer v c.args.sv c.loop-layer.spot image h c.requires.supervoxel.6 m i.low (omega arith) (i.at d b log v image h m))));
     }
 
+pub id_of-requires : goal.id_of-requires
+id_of-requires g c =
+    let r = c.requires.supervoxel in
+    let i = c.loop-layer.invariant in
+    let at = i.at r.0 r.1 r.2 r.3 r.4 r.5 r.7 in
+    record { within = within r.0 r.1 r.2 _ (subst (λ w. ParentImage r.0 r.1 r.2 (g.W.Words.words w)) (sym i.same) r.4) c.loop-layer.spot at.0 at.1 }
+
 pub returns-clause-is : goal.returns-clause-is
 returns-clause-is g c d b log v image h m =
     let i = c.loop-layer.invariant in
     let t : c.top_of-top.result ≡ top d = c.top_of-top.ensures.is d b log image in
     let f = c.loop-layer-test.false in
     let q = i.high in
-    c.id_of.ensures.is d b log _ (subst (λ w. ParentImage d b log (g.W.Words.words w)) (sym i.same) image) (i.at d b log v image h m)
+    c.id_of.ensures.is
+    ∙ id_at_told d b log _ (subst (λ w. ParentImage d b log (g.W.Words.words w)) (sym i.same) image) c.loop-layer.spot _ (i.at d b log v image h m)
     ∙ end_at d b (log_at d b log c.args.prefix) c.loop-layer.layer v (omega arith)

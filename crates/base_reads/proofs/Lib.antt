@@ -1,3 +1,0 @@
-pub mod Axes
-pub mod Images
-pub mod Emptied

@@ -1,6 +1,0 @@
-use Rattle.op_model.specs.Samples.{base, data_a, halved}
-use Rattle.edge_rows.proofs.SampleImages.{is_halved, supervoxel_halved}
-use Rattle.edge_rows.proofs.tests.last_edge_halved.Goals as goal
-
-pub last_edge-requires : goal.last_edge-requires
-last_edge-requires c = let v = supervoxel_halved c.args.sv c.requires.supervoxel.0 c.requires.supervoxel.1 in record { supervoxel = (data_a, base, halved, v.0, is_halved _ c.requires.words, v.1) }

@@ -1,2 +1,0 @@
-pub mod FrontImages
-pub mod KindFacts

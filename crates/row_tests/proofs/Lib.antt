@@ -1,0 +1,5 @@
+pub mod SampleImages
+pub mod KindFacts
+pub mod Images
+pub mod Axes
+pub mod Emptied

@@ -1,0 +1,82 @@
+//! One read of words each, and whether its reply is what is wanted. A reply is also to have seen so
+//! many entries.
+
+ghost use Rattle.std.specs.Prelude.{◌≡◌};
+ghost use Rattle.row_tests.specs.Logs.{TellsLog};
+
+use crate::replies::{are_leaves, is_path, is_refused, is_root};
+use node_ids::NodeId;
+use op_model::{PathIds, Read, Refusal};
+use pcg_base::{NoMemory, VecWords};
+use std::alloc::Global;
+use timestamp_reader::answer;
+
+/// Whether a supervoxel has this root.
+#[tactic(auto, using(crate::proofs::Images::told_parents))]
+pub fn has_root(
+    alloc: Global,
+    w: &mut VecWords,
+    sv: NodeId,
+    at: Option<u64>,
+    root: NodeId,
+    seen: u32,
+) -> bool
+    requires tells { TellsLog w.old.words }
+    ensures same { w.new ≡ w.old }
+{
+    let request = Read::Root { sv, at };
+    let reply = answer(alloc, w, &request);
+    is_root(&reply, root, seen)
+}
+
+/// Whether a supervoxel has this path.
+#[tactic(auto, using(crate::proofs::Images::told_parents))]
+pub fn has_path(
+    alloc: Global,
+    w: &mut VecWords,
+    sv: NodeId,
+    at: Option<u64>,
+    path: &PathIds,
+    seen: u32,
+) -> bool
+    requires tells { TellsLog w.old.words }
+    ensures same { w.new ≡ w.old }
+{
+    let request = Read::Path { sv, at };
+    let reply = answer(alloc, w, &request);
+    is_path(&reply, path, seen)
+}
+
+/// Whether a root has these leaves.
+#[tactic(auto, using(crate::proofs::Images::told_parents))]
+pub fn has_leaves(
+    alloc: Global,
+    w: &mut VecWords,
+    root: NodeId,
+    at: Option<u64>,
+    leaves: &[NodeId],
+    seen: u32,
+) -> Result<bool, NoMemory>
+    requires tells { TellsLog w.old.words }
+    ensures same { w.new ≡ w.old }
+{
+    let request = Read::Leaves { root, at };
+    let reply = answer(alloc, w, &request);
+    are_leaves(&reply, leaves, seen)
+}
+
+/// Whether a read is refused like this.
+#[tactic(auto, using(crate::proofs::Images::told_parents))]
+pub fn refuses(
+    alloc: Global,
+    w: &mut VecWords,
+    request: &Read,
+    refusal: &Refusal,
+    seen: u32,
+) -> bool
+    requires tells { TellsLog w.old.words }
+    ensures same { w.new ≡ w.old }
+{
+    let reply = answer(alloc, w, request);
+    is_refused(&reply, refusal, seen)
+}
