@@ -69,7 +69,8 @@ class Segmentation:
                     self.used[chunk] = self.used.get(chunk, 0) + 1
                     self.node.update({(layer, v): chunk + self.used[chunk] for v in part})
         made = self.roots(self.supervoxels if first else ends)
-        if sorted(map(int, entry["retired"])) != sorted(retired) or sorted(map(int, entry["made"])) != sorted(made):
+        told = [sorted(map(int, entry[what])) for what in ("retired", "made")]
+        if told != [sorted(retired), sorted(made)]:
             sys.exit(f"entry {entry['op']} of the log names other roots")
         return {root: {v for v in self.supervoxels if self.node[self.top, v] == root} for root in made}
 
@@ -102,7 +103,7 @@ class Page:
         self.shapes, self.width, self.height = [], 0, 0
 
     def text(self, x, y, words, anchor="middle"):
-        self.width, self.height = max(self.width, x + 150), max(self.height, y + 20)
+        self.width, self.height = max(self.width, x + 100), max(self.height, y + 30)
         self.shapes.append(f'<text x="{x}" y="{y}" text-anchor="{anchor}">{words}</text>')
 
     def line(self, x1, y1, x2, y2):
@@ -120,7 +121,9 @@ class Page:
 
 def draw_octree(page, seg, leaves):
     """Draws the nodes above these supervoxels, the root at the top, and returns where the drawing ends."""
-    column = {v: LEFT + STEP * k for k, v in enumerate(sorted(leaves))}
+    path = {v: [seg.node[layer, v] for layer in range(seg.top, 1, -1)] for v in leaves}
+    ordered = sorted(leaves, key=lambda v: (path[v], v))  # the leaves of a node side by side
+    column = {v: LEFT + STEP * k for k, v in enumerate(ordered)}
     spot = {}  # of each supervoxel, where its node of the layer below stands
     for layer in range(1, seg.top + 1):
         y = TOP + ROW * (seg.top - layer)
