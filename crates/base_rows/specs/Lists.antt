@@ -1,7 +1,7 @@
 -- The records of a base by their places: what edges, nodes and links the places mean.
 use Rattle.std.specs.Prelude.{◌≡◌, ◌≢◌, ℕ, ◌<◌, List, length, Some, slice_index_or}
 use Rattle.std.specs.List.{slice_get}
-use Rattle.graph_model.specs.Lists.{head_or}
+use Rattle.op_model.specs.Lists.{head_or}
 use Rattle.record_rows.specs.Rows.{Node, Link}
 use Rattle.base_rows.specs.declared.lists.BaseEdge.{BaseEdge}
 use Rattle.base_rows.specs.declared.lists.BaseNode.{BaseNode}

@@ -8,7 +8,7 @@ use Rattle.op_model.specs.declared.Pair.{Pair}
 use Rattle.op_model.specs.declared.Edge.{Edge}
 use Rattle.op_model.specs.declared.Changed.{Changed}
 use Rattle.op_model.specs.declared.Entry.{Entry}
-use Rattle.graph_model.specs.Lists.{has}
+use Rattle.op_model.specs.Lists.{has}
 use Rattle.op_model.specs.Edges.{same_pair}
 use Rattle.record_rows.specs.Rows.{Row, HeaderRow, SupervoxelRow, EdgeRow, ChangeRow}
 use Rattle.record_rows.specs.Chains.{edge_at, is_edge, change_of}

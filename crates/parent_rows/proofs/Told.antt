@@ -12,7 +12,7 @@ use Rattle.record_rows.specs.Words.{fixed_words}
 use Rattle.record_rows.specs.Sorted.{id_at}
 use Rattle.record_rows.specs.LogRows.{rows_of}
 use Rattle.record_rows.specs.Readings.{ParentImage, Holds, HoldsId, HoldsChunk, HoldsNode, place_of, first_place, next_place}
-use Rattle.graph_model.specs.Lists.{head_or}
+use Rattle.op_model.specs.Lists.{head_or}
 use Rattle.record_rows.proofs.RowFacts.{entries_few, made_below, number_below}
 use Rattle.record_rows.proofs.ImageFacts.{few, within, told_fixed, told_small, told_first, told_next}
 

@@ -5,7 +5,7 @@ ghost use Rattle.op_model.specs.declared.Dataset.{Dataset};
 ghost use Rattle.op_model.specs.declared.Base.{Base};
 ghost use Rattle.op_model.specs.declared.Entry.{Entry};
 ghost use Rattle.op_model.specs.Valid.{IsAscending};
-ghost use Rattle.graph_model.specs.Lists.{head_or};
+ghost use Rattle.op_model.specs.Lists.{head_or};
 ghost use Rattle.record_rows.specs.Rows.{Node, Link, LinkRow, EntryRow};
 ghost use Rattle.record_rows.specs.Chains.{child_of, retires};
 ghost use Rattle.record_rows.specs.LogRows.{rows_of};

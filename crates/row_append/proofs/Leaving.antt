@@ -8,7 +8,7 @@ use Rattle.op_model.specs.declared.Pair.{Pair}
 use Rattle.op_model.specs.declared.Edge.{Edge}
 use Rattle.op_model.specs.declared.Entry.{Entry}
 use Rattle.op_model.specs.Edges.{same_pair}
-use Rattle.graph_model.specs.Lists.{head_or}
+use Rattle.op_model.specs.Lists.{head_or}
 use Rattle.record_rows.specs.Rows.{Row, HeaderRow, SupervoxelRow, ChunkRow, NodeRow, LinkRow, EdgeRow, ChangeRow, ItemRow, EntryRow, Node, Link}
 use Rattle.record_rows.specs.Chains.{aims, edge_at, version_of, child_of, node_in, is_node, has_id, is_edge, change_of, change_in, item_in, entry_before, retires}
 use Rattle.record_rows.specs.Words.{place_from, fixed_words, pointer_word, row_words, bit, strength, kind_code, names}

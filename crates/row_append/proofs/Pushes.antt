@@ -5,7 +5,7 @@ use Rattle.std.proofs.lemmas.Bool.{false≢true, eqb-true, eq-eqb, or_cases, or_
 use Rattle.op_model.specs.declared.Dataset.{Dataset}
 use Rattle.op_model.specs.declared.Edge.{Edge}
 use Rattle.op_model.specs.declared.Entry.{Entry}
-use Rattle.graph_model.specs.Lists.{head_or}
+use Rattle.op_model.specs.Lists.{head_or}
 use Rattle.record_rows.specs.Rows.{Row, HeaderRow, SupervoxelRow, ChunkRow, NodeRow, LinkRow, EdgeRow, EntryRow, Node, Link}
 use Rattle.record_rows.specs.Chains.{aims, edge_at, version_of, child_of, node_in, is_node, has_id, change_of, retires}
 use Rattle.record_rows.specs.Words.{place_from, fixed_words, pointer_word, row_words, words_from, words_of, layout_word, grid_word, bit, strength, kind_code, names}

@@ -6,7 +6,7 @@ use Rattle.std.proofs.lemmas.Bool.{eqb-true, ltb-true, leb-true, and_parts, or_p
 use Rattle.node_ids.specs.Digits.{number_of}
 use Rattle.node_ids.specs.Ids.{parts_of}
 use Rattle.chunk_geometry.specs.Grids.{in_grid}
-use Rattle.graph_model.specs.Lists.{has}
+use Rattle.op_model.specs.Lists.{has}
 use Rattle.op_model.specs.declared.Dataset.{Dataset}
 use Rattle.op_model.specs.declared.Pair.{Pair}
 use Rattle.op_model.specs.declared.Weight.{Weight}

@@ -2,7 +2,7 @@
 use Rattle.std.proofs.Common.{◌≡◌, ℕ, Bool, true, false, not, cond, ◌||◌, eqb, List, [], ◌∷◌, ◌++◌, nat_eq, Ok, Err, refl, sym, ap, ◌∙◌, arith}
 use Rattle.std.specs.List.{list_any}
 use Rattle.indexmap.specs.IndexSet.{insert_key}
-use Rattle.graph_model.specs.Lists.{has}
+use Rattle.op_model.specs.Lists.{has}
 use Rattle.op_model.specs.declared.Dataset.{Dataset}
 use Rattle.table_ingest.specs.Faults.{◌>>=◌, only_if}
 use Rattle.table_ingest.specs.Supervoxels.{placed_id, supervoxel_of}

@@ -2,7 +2,7 @@
 use Rattle.std.specs.Prelude.{ℕ, ◌^◌, Bool, true, false, not, ◌&&◌, ◌==◌, nat_le, nat_lt, if◌then◌else◌, List, length, Option, Some, None, option_and_then, Result, codes, bytes_eq}
 use Rattle.std.specs.List.{list_any}
 use Rattle.node_ids.specs.Digits.{number_of}
-use Rattle.graph_model.specs.Lists.{has}
+use Rattle.op_model.specs.Lists.{has}
 use Rattle.op_model.specs.declared.Pair.{Pair}
 use Rattle.op_model.specs.declared.Weight.{Weight}
 use Rattle.op_model.specs.declared.Weight.TheVariants.{Affinity, Glue}

@@ -2,7 +2,7 @@
 
 ghost use Rattle.std.specs.Prelude.{◌≡◌, ℕ, List, [], IfErr, IfOk};
 ghost use Rattle.csv.specs.Records.{fields_of};
-ghost use Rattle.graph_model.specs.Lists.{has};
+ghost use Rattle.op_model.specs.Lists.{has};
 ghost use Rattle.table_ingest.specs.Records.{Are, HasLeft, UnderHeader};
 ghost use Rattle.table_ingest.specs.Supervoxels.{id_of, ids_of, is_id_header, placed, placed_id, supervoxel_of};
 ghost use Rattle.table_ingest.specs.Tables.{Gives, Took, meanings};
