@@ -26,8 +26,8 @@ fn words(alloc: Global, place: usize, word: &str) -> Result<Vec<Vec<u8>>, AllocE
         "first",
     ];
     let mut list = Vec::new(alloc);
-    for (k, text) in usual.into_iter().enumerate() {
-        let text = if k == place { word } else { text };
+    for k in 0..usual.len() {
+        let text = if k == place { word } else { usual[k] };
         list.push(Vec::from_slice(alloc, text.as_bytes())?)?;
     }
     Ok(list)

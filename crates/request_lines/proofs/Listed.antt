@@ -1,6 +1,8 @@
 -- Lists of JSON values, item by item.
-use Rattle.std.proofs.Common.{◌≡◌, ℕ, List, [], ◌∷◌, ◌++◌, length, Option, Some, None, refl}
-use Rattle.serde_json.specs.View.{items_view}
+use Rattle.std.proofs.Common.{◌≡◌, ℕ, ◌+◌, ◌<◌, List, [], ◌∷◌, ◌++◌, length, drop, get_or, Option, Some, None, refl, sym, ◌∙◌, ap, append_assoc}
+use Rattle.std.proofs.lemmas.List.{drop_more}
+use Rattle.serde_json.specs.Data.{Data}
+use Rattle.serde_json.specs.View.{items_view, view}
 use Rattle.serde_json.specs.declared.value.Value.{Value}
 use Rattle.request_lines.specs.Fields.{all_in, id_in, two, ◌>>=◌}
 
@@ -30,3 +32,16 @@ no_pair [] h = refl
 no_pair (u ∷ []) h = lone _
 no_pair (u ∷ v ∷ []) h = absurd (h refl)
 no_pair (u ∷ v ∷ w ∷ more) h = crowd _ _ _ _
+
+-- a first item that is read stands behind those before it
+step : {A : Type 0} (done : List A) (x : A) (o : Option A) (p : Option (List A)) → Some x ≡ o → behind done (ahead o p) ≡ behind (done ++ x ∷ []) p
+step done x o None e = rw (sym e) refl
+step done x o (Some more) e = rw (sym e) (ap (λ xs. Some xs) (sym (append_assoc done (x ∷ []) more)))
+
+-- the next item was read
+pub behind_next : {A : Type 0} (form : Data → Option A) (vs : List Value) (i : ℕ) (v : Value) (x : A) (done more : List A) (whole : Option (List A))
+    → i < length vs → v ≡ get_or vs i v → Some x ≡ form (view v) → more ≡ done ++ x ∷ [] → behind done (all_in form (items_view (drop i vs))) ≡ whole
+    → behind more (all_in form (items_view (drop (i + 1) vs))) ≡ whole
+behind_next form vs i v x done more whole lt is read put so =
+    rw put (sym (step done x (form (view v)) (all_in form (items_view (drop (i + 1) vs))) read)
+    ∙ sym (ap (λ w. behind done (all_in form (items_view w))) (drop_more vs i v lt ∙ ap (λ w. w ∷ drop (i + 1) vs) (sym is))) ∙ so)
