@@ -1,5 +1,10 @@
 //! The records of a base and its first entry, put one behind the other.
 //!
+//! The promise: [`base_words`] gives the words of the header, supervoxels, chunks, edges, nodes,
+//! links and first entry of a base, in this order, from lists that tell each record by the spots
+//! of others. It leaves room for all the records of the capacity, or answers that it is out of
+//! memory.
+//!
 //! - `building`: all of them
 //! - `edges`: the edges
 //! - `links`: the links

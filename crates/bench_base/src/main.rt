@@ -7,6 +7,8 @@
 //! many of 200,000 reads of the roots of drawn supervoxels, one after the other, are answered in a second. The
 //! tables are those of `tables`; N is from 1 to 1,000,000. Below 1,000 supervoxels nothing is told of time: the
 //! last three numbers are 0. Status 1: the words are of another form; 5: memory ran out or the clock failed.
+//!
+//! The promise: it never panics. Nothing is promised of what it prints.
 #![tactic(auto)]
 
 ghost use Rattle.op_model.specs.Valid.{IsBase, IsDataset};

@@ -7,6 +7,8 @@
 //! and the least time of five cuts, in whole milliseconds. The nets are those of `nets`. A net has from 2 to
 //! 1,000,000 vertices and at most 500,000 links. Status 1: the words are of neither form; 5: memory ran out
 //! or the clock failed.
+//!
+//! The promise: it never panics. Nothing is promised of what it prints.
 #![tactic(auto)]
 
 ghost use Rattle.bench_cut.specs.Wishes.{IsWish};

@@ -3,6 +3,11 @@
 //! Each answer is that of the log whose image the words are: `Image` of record_rows says which
 //! words are meant. No call changes what a contract sees of the words.
 //!
+//! The promise: over the image of a legal log, [`find_edge`] gives the record of a pair, or says
+//! that there is none; [`state_at`] the state of an edge at a prefix; [`edges_of`] a supervoxel's
+//! edges there with their states, ascending; [`last_edge`] and [`last_change`] the ends of both
+//! chains.
+//!
 //! - `chains`: from one record of a chain to the next
 //! - `fields`: what the words of an edge or a change tell
 //! - `finding`: the record of a pair, and the ends of chains

@@ -1,11 +1,12 @@
 //! The texts of replies and of log entries, and sinks that fail.
 
+use memory_devices::MemSink;
 use node_ids::NodeId;
 use op_model::{
     Asked, AskedPair, AskedPairs, Carries, Carry, Changed, ChangedPairs, Edit, Entry, Ids, Kind,
     Pair, Pairs, Refusal, Reply, Shown, Summaries, Summary,
 };
-use pcg_base::{Failed, MemSink};
+use pcg_base::Failed;
 use request_lines::{write_entry, write_reply};
 use std::alloc::{AllocError, Global};
 

@@ -5,6 +5,12 @@
 //! the records of edges, changes and items hold counts for nothing (`ParentImage` of record_rows).
 //! The other calls need the whole image. No call changes what a contract sees of the words.
 //!
+//! The promise: from the records of entries alone, [`length`] says how many entries there are,
+//! [`head`] what an entry's record tells, [`last_about`] which entry is the last one about an
+//! operation, and [`prefix_at`] which prefix a time means, or why it means none. Over the whole
+//! image, [`asked`] gives what was asked, in request order, and [`changed`] and [`all_changed`]
+//! the changed pairs, ascending.
+//!
 //! - `heads`: how many entries there are, and what one's record tells
 //! - `times`: which entries were there at a time
 //! - `asking`: what made an entry

@@ -2,6 +2,10 @@
 //! calls that they are told to, and places of such files. Each failure is counted, and each call's
 //! contract says which bytes it gives or takes, and when it fails.
 //!
+//! The promise: sources, sinks and places in memory tell their bytes, and meet the contracts of
+//! [`pcg_base::Source`], [`pcg_base::Sink`] and [`pcg_base::Place`]. A source fails exactly at the
+//! calls that are named, and a sink at those and if it has no room left.
+//!
 //! - `mem_source`, `mem_sink`: streams in memory
 //! - `mem_place`, `kept`: places in memory, and what they keep beside each name
 #![tactic(auto)]

@@ -5,6 +5,13 @@
 //! and items hold counts for nothing: `ParentImage` of record_rows says which words are meant. No
 //! call changes what a contract sees of the words.
 //!
+//! The promise: [`find`] and [`chunk`] give the record of an id or a chunk, or say that there is
+//! none; [`node`] what a node's record tells; [`children`] its children, ascending;
+//! [`first_node`], [`next_node`] and [`last_node`] the nodes of a chunk, ascending; [`parent_at`]
+//! the parent at a prefix; [`ended`] the entry that retired a node, if it is below a prefix;
+//! [`last_version`] the newest link of a child. Each answer is that of every legal log of whose
+//! nodes and parents the words tell.
+//!
 //! - `finding`: the records of supervoxels, chunks and nodes
 //! - `nodes`: what a node's record tells, and its children
 //! - `chunk_nodes`: the nodes of a chunk

@@ -2,6 +2,10 @@
 //! and without memory. And the requests of lines, read exactly: what a line asks, or the first
 //! cause for which it is no request, is a function of the value that `serde_json` reads from it.
 //!
+//! The promise: each reply and log line is written as its text, exactly, or a front of it if the
+//! sink failed. [`split_line`] cuts lines at line feeds. [`read_line`] answers what a line asks,
+//! or the first cause for which it is no request, exactly, or that it is out of memory.
+//!
 //! - `replies`, `refused`: the replies;
 //! - `entries`: the lines of the operation log;
 //! - `lines`: the lines of a stream;

@@ -7,6 +7,12 @@
 //!
 //! `specs/Ends` has the chains and where they end, `specs/Laws` what holds of that.
 //!
+//! The promise: a record of a base or of its first entry that is put behind the words of others,
+//! with one store for each chain that it belongs to, gives the words of the longer list
+//! (`push_header`, `push_supervoxel`, `push_chunk`, `push_edge`, `push_node`, `push_link`,
+//! `push_entry`). Where each chain ends then is known without a walk (`others_stay`,
+//! `chains_begin`, `members_end`, `ends_are_last`, `first_places_stay` of `laws`).
+//!
 //! - `header`: the words of a header
 //! - `laws`: where chains end with one more record, each law the contract of a function that does
 //!   nothing

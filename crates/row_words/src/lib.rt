@@ -4,6 +4,11 @@
 //! A record has eight words, four fixed ones and then four pointers to other records. A `Spot` is
 //! a record's place: how many records stand before it.
 //!
+//! The promise: [`kind_of`], [`fixed`] and [`pointer`] tell the words of a record exactly.
+//! [`find_sorted`] finds an id among ascending ones, or says that it isn't there. A [`Draft`]
+//! holds exactly what was put into it. [`apply`] gives the words with the draft's links filled,
+//! of which the last one of a pointer counts, and its rows behind them.
+//!
 //! - `applying`: the words with a draft applied
 //! - `draft`: new records on their way into the words
 //! - `rows`: the words of one record

@@ -5,6 +5,13 @@
 //! table. Each record is read once; beside the base, memory is taken for the names of its supervoxels, for
 //! the pairs of its edges and for one record.
 //!
+//! The promise: any two texts spell one base, or have one first record with a cause, never both
+//! ([`laws::two_texts_mean_one_thing`]), and [`read_base`] answers exactly that, or that it is
+//! out of memory. Each text has its records and no others ([`laws::every_text_has_records`]).
+//! What two texts spell is a base ([`laws::bases_are_valid`]), with no more supervoxels and edges
+//! than the texts have bytes ([`laws::rows_are_few`]). The record that is named is the first
+//! ([`laws::faults_are_first`]).
+//!
 //! - `base`: the call.
 //! - `errors`: what may be wrong with a table.
 //! - `records`: the records of a text, one after the other.

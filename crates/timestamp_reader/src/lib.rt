@@ -6,6 +6,13 @@
 //! and items hold counts for nothing, so no root is computed anew from the edges. Roots and paths
 //! take no memory, and nor does a read that is refused.
 //!
+//! The promise: [`root_at`] and [`path_at`] give the root and the path of a supervoxel at a
+//! prefix as the definitions do. [`leaves`] gives the leaves of a node as they were when it was
+//! made, which for a root are those that the definitions answer ([`laws::leaves_are_told`]).
+//! [`answer`] gives the whole reply to a read of a root, a path or leaves: its first refusal, or
+//! the defined answer. [`entry`] gives a whole entry of the log, with the roots that it retired
+//! and made.
+//!
 //! - `answers`: whole replies to reads
 //! - `nodes`: the nodes of a supervoxel at a prefix
 //! - `node_leaves`: the supervoxels of a node
