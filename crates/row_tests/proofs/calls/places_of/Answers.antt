@@ -3,7 +3,6 @@ use Rattle.op_model.specs.Samples.{base, data_a}
 use Rattle.record_rows.specs.Readings.{Image, ParentImage}
 use Rattle.record_rows.proofs.ImageFacts.{parent_image}
 use Rattle.record_rows.proofs.BaseRows.{supervoxels_sorted}
-use Rattle.row_tests.specs.Kinds.{IsSample}
 use Rattle.row_tests.proofs.KindFacts.{header_within}
 use Rattle.row_tests.proofs.calls.places_of.Goals as goal
 

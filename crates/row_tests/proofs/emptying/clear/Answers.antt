@@ -18,6 +18,6 @@ set-requires c =
 pub loop-k-preserved : goal.loop-k-preserved
 loop-k-preserved c = (
   λ d b log row i h u. subst (λ s. ParentImage d b log s.words) (sym c.set.ensures)
-      (word_cleared d b log _ c.args.place c.loop-k.k row (c.loop-k.invariant.0 d b e row i h u) h u c.loop-k-test.true),
+      (word_cleared d b log _ c.args.place c.loop-k.k row (c.loop-k.invariant.0 d b log row i h u) h u c.loop-k-test.true),
   ap (λ s. length s.words) c.set.ensures ∙ (length-set _ _ _ ∙ c.loop-k.invariant.1),
 )

@@ -1,6 +1,6 @@
 use Rattle.std.proofs.Common.{◌<◌, ◌∙◌, sym, subst}
 use Rattle.op_model.specs.Samples.{base, data_a}
-use Rattle.record_rows.specs.Readings.{Image, ParentImage}
+use Rattle.record_rows.specs.Readings.{Image}
 use Rattle.record_rows.proofs.ImageFacts.{parent_image}
 use Rattle.row_tests.proofs.entry_calls.entry_lists.Goals as goal
 
