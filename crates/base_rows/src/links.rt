@@ -2,7 +2,7 @@
 
 ghost use Rattle.std.specs.Prelude.{◌≡◌, ℕ, List, ◌≤◌, ◌<◌, ◌+◌, ◌-◌, ◌*◌, ◌^◌, ◌++◌, [], ◌∷◌, length, map, OnOk};
 ghost use Rattle.std.specs.List.{All};
-ghost use Rattle.op_model.specs.declared.Dataset.{Dataset};
+ghost use Rattle.op_model.specs.declared.base.Dataset.{Dataset};
 ghost use Rattle.record_rows.specs.Rows.{Row, LinkRow, Node};
 ghost use Rattle.record_rows.specs.Words.{words_of};
 ghost use Rattle.base_rows.specs.declared.lists.BaseEdge.{BaseEdge};

@@ -1,7 +1,7 @@
 //! The records of nodes.
 
 ghost use Rattle.std.specs.Prelude.{◌≡◌, ℕ, List, ◌≤◌, ◌<◌, ◌+◌, ◌-◌, ◌*◌, ◌^◌, ◌++◌, [], ◌∷◌, length, OnOk};
-ghost use Rattle.op_model.specs.declared.Dataset.{Dataset};
+ghost use Rattle.op_model.specs.declared.base.Dataset.{Dataset};
 ghost use Rattle.record_rows.specs.Rows.{Row, NodeRow, Node};
 ghost use Rattle.record_rows.specs.Words.{words_of};
 ghost use Rattle.base_rows.specs.declared.lists.BaseEdge.{BaseEdge};

@@ -1,7 +1,7 @@
 //! The header, and the records of supervoxels and chunks.
 
 ghost use Rattle.std.specs.Prelude.{◌≡◌, ℕ, List, ◌≤◌, ◌<◌, ◌+◌, ◌-◌, ◌*◌, ◌^◌, ◌++◌, [], ◌∷◌, length, map};
-ghost use Rattle.op_model.specs.declared.Dataset.{Dataset as TheDataset};
+ghost use Rattle.op_model.specs.declared.base.Dataset.{Dataset as TheDataset};
 ghost use Rattle.record_rows.specs.Rows.{HeaderRow, SupervoxelRow, ChunkRow};
 ghost use Rattle.record_rows.specs.Words.{words_of};
 ghost use Rattle.base_rows.specs.BaseRows.{owner_rows};

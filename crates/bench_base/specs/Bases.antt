@@ -1,8 +1,8 @@
 -- What is read and built.
 use Rattle.std.specs.Prelude.{◌≤◌, ℕ, List}
-use Rattle.op_model.specs.declared.Dataset.{Dataset}
-use Rattle.op_model.specs.declared.Base.{Base}
-use Rattle.op_model.specs.declared.Entry.{Entry}
+use Rattle.op_model.specs.declared.base.Dataset.{Dataset}
+use Rattle.op_model.specs.declared.base.Base.{Base}
+use Rattle.op_model.specs.declared.entry.Entry.{Entry}
 use Rattle.record_rows.specs.Readings.{ParentImage}
 
 -- from 1 to 1,000,000 supervoxels

@@ -1,13 +1,13 @@
 -- What the fixed words of an edge or a change tell.
 use Rattle.std.proofs.Common.{◌≡◌, ℕ, ◌+◌, ◌*◌, ◌/◌, ◌%◌, ◌<◌, ◌^◌, Bool, true, false, eqb, List, get_or, refl, ◌∙◌, ap, arith, eq-eqb}
 use Rattle.std.proofs.lemmas.Bool.{ne_eqb}
-use Rattle.op_model.specs.declared.Dataset.{Dataset}
-use Rattle.op_model.specs.declared.Base.{Base}
-use Rattle.op_model.specs.declared.Edge.{Edge}
-use Rattle.op_model.specs.declared.Weight.{Weight}
-use Rattle.op_model.specs.declared.Weight.TheVariants.{Affinity, Glue}
-use Rattle.op_model.specs.declared.Changed.{Changed}
-use Rattle.op_model.specs.declared.Entry.{Entry}
+use Rattle.op_model.specs.declared.base.Dataset.{Dataset}
+use Rattle.op_model.specs.declared.base.Base.{Base}
+use Rattle.op_model.specs.declared.base.Edge.{Edge}
+use Rattle.op_model.specs.declared.base.Weight.{Weight}
+use Rattle.op_model.specs.declared.base.Weight.TheVariants.{Affinity, Glue}
+use Rattle.op_model.specs.declared.entry.Changed.{Changed}
+use Rattle.op_model.specs.declared.entry.Entry.{Entry}
 use Rattle.record_rows.specs.Rows.{EdgeRow, ChangeRow}
 use Rattle.record_rows.specs.Words.{bit, strength, fixed_words}
 use Rattle.record_rows.specs.Readings.{Image, HoldsEdge, HoldsChange}

@@ -1,7 +1,7 @@
 -- The walk along the edges of a supervoxel that lists them as they are at a prefix.
 use Rattle.std.proofs.Common.{◌≡◌, ℕ, Bool, true, false, cond, ◌&&◌, ltb, List, [], map, Option, Some, None, refl, sym, ◌∙◌, ap, subst}
 use Rattle.std.specs.List.{slice_get, filter_map, cons_option}
-use Rattle.op_model.specs.declared.Edge.{Edge}
+use Rattle.op_model.specs.declared.base.Edge.{Edge}
 use Rattle.op_model.specs.Edges.{put_edge, put_edges}
 use Rattle.op_model.specs.Cuts.{PairsAscend}
 use Rattle.op_model.proofs.OrderLemmas.{put_sorted}

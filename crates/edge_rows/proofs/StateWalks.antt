@@ -3,8 +3,8 @@ use Rattle.std.proofs.Common.{◌≡◌, ℕ, ◌<◌, ◌≤◌, Bool, true, fa
 use Rattle.std.specs.List.{slice_get, filter_map, cons_option, last_or}
 use Rattle.std.proofs.lemmas.Bool.{le-ltb}
 use Rattle.std.proofs.lemmas.Option.{same_Some}
-use Rattle.op_model.specs.declared.Pair.{Pair}
-use Rattle.op_model.specs.declared.Changed.{Changed}
+use Rattle.op_model.specs.declared.base.Pair.{Pair}
+use Rattle.op_model.specs.declared.entry.Changed.{Changed}
 use Rattle.op_model.specs.Edges.{same_pair}
 use Rattle.op_model.proofs.EdgeLemmas.{same_pair_self}
 use Rattle.record_rows.specs.Rows.{Row, ChangeRow}

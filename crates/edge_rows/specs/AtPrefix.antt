@@ -1,6 +1,6 @@
 -- Edges with the states that a list of edges gives them.
 use Rattle.std.specs.Prelude.{List}
-use Rattle.op_model.specs.declared.Edge.{Edge}
+use Rattle.op_model.specs.declared.base.Edge.{Edge}
 use Rattle.record_rows.specs.Walks.{is_active}
 
 -- the edge with the state that its pair has among these

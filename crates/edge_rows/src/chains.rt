@@ -1,11 +1,11 @@
 //! From one record of a chain to the next: the edges of a supervoxel, and the changes of an edge.
 
 ghost use Rattle.std.specs.Prelude.{◌≡◌, ℕ, List, true};
-ghost use Rattle.op_model.specs.declared.Dataset.{Dataset};
-ghost use Rattle.op_model.specs.declared.Base.{Base};
-ghost use Rattle.op_model.specs.declared.Edge.{Edge};
-ghost use Rattle.op_model.specs.declared.Changed.{Changed};
-ghost use Rattle.op_model.specs.declared.Entry.{Entry};
+ghost use Rattle.op_model.specs.declared.base.Dataset.{Dataset};
+ghost use Rattle.op_model.specs.declared.base.Base.{Base};
+ghost use Rattle.op_model.specs.declared.base.Edge.{Edge};
+ghost use Rattle.op_model.specs.declared.entry.Changed.{Changed};
+ghost use Rattle.op_model.specs.declared.entry.Entry.{Entry};
 ghost use Rattle.record_rows.specs.Rows.{EdgeRow};
 ghost use Rattle.record_rows.specs.Chains.{edge_at, change_of};
 ghost use Rattle.record_rows.specs.LogRows.{rows_of};

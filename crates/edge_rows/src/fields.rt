@@ -1,11 +1,11 @@
 //! What the words of an edge or a change tell.
 
 ghost use Rattle.std.specs.Prelude.{◌≡◌, ℕ, List};
-ghost use Rattle.op_model.specs.declared.Dataset.{Dataset};
-ghost use Rattle.op_model.specs.declared.Base.{Base};
-ghost use Rattle.op_model.specs.declared.Edge.{Edge};
-ghost use Rattle.op_model.specs.declared.Changed.{Changed};
-ghost use Rattle.op_model.specs.declared.Entry.{Entry};
+ghost use Rattle.op_model.specs.declared.base.Dataset.{Dataset};
+ghost use Rattle.op_model.specs.declared.base.Base.{Base};
+ghost use Rattle.op_model.specs.declared.base.Edge.{Edge};
+ghost use Rattle.op_model.specs.declared.entry.Changed.{Changed};
+ghost use Rattle.op_model.specs.declared.entry.Entry.{Entry};
 ghost use Rattle.record_rows.specs.Readings.{Image, HoldsEdge, HoldsChange};
 
 use node_ids::NodeId;

@@ -1,10 +1,10 @@
 //! The record of a pair, and the ends of chains.
 
 ghost use Rattle.std.specs.Prelude.{◌≡◌, ℕ, List};
-ghost use Rattle.op_model.specs.declared.Dataset.{Dataset};
-ghost use Rattle.op_model.specs.declared.Base.{Base};
-ghost use Rattle.op_model.specs.declared.Edge.{Edge};
-ghost use Rattle.op_model.specs.declared.Entry.{Entry};
+ghost use Rattle.op_model.specs.declared.base.Dataset.{Dataset};
+ghost use Rattle.op_model.specs.declared.base.Base.{Base};
+ghost use Rattle.op_model.specs.declared.base.Edge.{Edge};
+ghost use Rattle.op_model.specs.declared.entry.Entry.{Entry};
 ghost use Rattle.op_model.specs.Edges.{same_pair};
 ghost use Rattle.record_rows.specs.Chains.{edge_at, is_edge, change_of};
 ghost use Rattle.record_rows.specs.LogRows.{rows_of};

@@ -1,10 +1,10 @@
 //! The edges of a supervoxel at a prefix.
 
 ghost use Rattle.std.specs.Prelude.{◌≡◌, ℕ, ◌≤◌, nat_lt, if◌then◌else◌, List, map, OnOk, IfOk};
-ghost use Rattle.op_model.specs.declared.Dataset.{Dataset};
-ghost use Rattle.op_model.specs.declared.Base.{Base};
-ghost use Rattle.op_model.specs.declared.Edge.{Edge};
-ghost use Rattle.op_model.specs.declared.Entry.{Entry};
+ghost use Rattle.op_model.specs.declared.base.Dataset.{Dataset};
+ghost use Rattle.op_model.specs.declared.base.Base.{Base};
+ghost use Rattle.op_model.specs.declared.base.Edge.{Edge};
+ghost use Rattle.op_model.specs.declared.entry.Entry.{Entry};
 ghost use Rattle.op_model.specs.Edges.{put_edge};
 ghost use Rattle.op_model.specs.Labels.{edges};
 ghost use Rattle.op_model.specs.Cuts.{PairsAscend};

@@ -6,8 +6,8 @@ use Rattle.std.proofs.lemmas.List.FromFn.{length-range_with_len, get_or-range_wi
 use Rattle.std.proofs.lemmas.List.Elements.{All-append, All-from_recursion, recursion_from_All}
 use Rattle.std.proofs.lemmas.Grind.{flat_map-append}
 use Rattle.chunk_geometry.proofs.LayerLemmas.{top_low}
-use Rattle.op_model.specs.declared.Dataset.{Dataset}
-use Rattle.op_model.specs.declared.Base.{Base}
+use Rattle.op_model.specs.declared.base.Dataset.{Dataset}
+use Rattle.op_model.specs.declared.base.Base.{Base}
 use Rattle.op_model.specs.Chunks.{top, layers, layers_from}
 use Rattle.op_model.specs.Labels.{node}
 use Rattle.op_model.specs.Valid.{IsBase, IsDataset}

@@ -3,9 +3,9 @@ use Rattle.std.proofs.Common.{◌≡◌, ℕ, ◌+◌, ◌-◌, ◌<◌, ◌≤�
 use Rattle.std.specs.List.{AllByRecursion, filter, range_with_len}
 use Rattle.std.proofs.lemmas.Bool.{ne_eqb}
 use Rattle.std.proofs.lemmas.List.Elements.{recursion_from_All}
-use Rattle.op_model.specs.declared.Dataset.{Dataset}
-use Rattle.op_model.specs.declared.Base.{Base}
-use Rattle.op_model.specs.declared.Entry.{Entry}
+use Rattle.op_model.specs.declared.base.Dataset.{Dataset}
+use Rattle.op_model.specs.declared.base.Base.{Base}
+use Rattle.op_model.specs.declared.entry.Entry.{Entry}
 use Rattle.graph_model.specs.Lists.{has}
 use Rattle.op_model.specs.Chunks.{chunk, top}
 use Rattle.op_model.specs.Labels.{node, label}

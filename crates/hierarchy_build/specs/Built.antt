@@ -2,8 +2,8 @@
 use Rattle.std.specs.Prelude.{◌≡◌, ℕ, ◌<◌, ◌++◌, List, [], map, ⊤}
 use Rattle.std.specs.List.{All}
 use Rattle.node_ids.specs.Ids.{parts_of}
-use Rattle.op_model.specs.declared.Dataset.{Dataset}
-use Rattle.op_model.specs.declared.Base.{Base}
+use Rattle.op_model.specs.declared.base.Dataset.{Dataset}
+use Rattle.op_model.specs.declared.base.Base.{Base}
 use Rattle.op_model.specs.Labels.{edges}
 use Rattle.op_model.specs.Legal.{LabelsFit}
 use Rattle.op_model.specs.Records.{records}

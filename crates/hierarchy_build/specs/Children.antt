@@ -1,8 +1,8 @@
 -- What stands below a node, from the layers as they are built.
 use Rattle.std.specs.Prelude.{◌≡◌, ℕ, ◌+◌, ◌≤◌, ◌==◌, map}
 use Rattle.std.specs.List.{filter, All}
-use Rattle.op_model.specs.declared.Dataset.{Dataset}
-use Rattle.op_model.specs.declared.Base.{Base}
+use Rattle.op_model.specs.declared.base.Dataset.{Dataset}
+use Rattle.op_model.specs.declared.base.Base.{Base}
 use Rattle.op_model.specs.Chunks.{top}
 use Rattle.op_model.specs.Valid.{IsBase, IsDataset}
 use Rattle.record_rows.specs.LogRows.{children_of}

@@ -2,7 +2,7 @@
 
 ghost use Rattle.std.specs.Prelude.{◌≡◌, ◌<◌, ◌≤◌, ◌+◌, ◌-◌, ◌^◌, ℕ, Some, length, sum_by};
 ghost use Rattle.std.specs.List.{slice_get};
-ghost use Rattle.op_model.specs.declared.Dataset.{Dataset};
+ghost use Rattle.op_model.specs.declared.base.Dataset.{Dataset};
 ghost use Rattle.op_model.specs.Records.{records};
 ghost use Rattle.record_rows.specs.LogRows.{chunks};
 ghost use Rattle.op_model.specs.Ingest.{ingested};

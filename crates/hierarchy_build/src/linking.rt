@@ -2,7 +2,7 @@
 
 ghost use Rattle.std.specs.Prelude.{◌≡◌, ◌<◌, ◌≤◌, ◌+◌, ◌++◌, ◌^◌, ℕ, length, map, replicate, slice_index_or, IfOk, OnOk};
 ghost use Rattle.std.specs.List.{All};
-ghost use Rattle.op_model.specs.declared.Dataset.{Dataset};
+ghost use Rattle.op_model.specs.declared.base.Dataset.{Dataset};
 ghost use Rattle.record_rows.specs.LogRows.{new_links};
 ghost use Rattle.base_rows.specs.Lists.{IsWithin, link_of};
 ghost use Rattle.op_model.specs.Ingest.{ingested};

@@ -2,10 +2,10 @@
 use Rattle.std.proofs.Common.{◌≡◌, ℕ, ◌+◌, ◌-◌, Bool, true, false, cond, ◌&&◌, ◌||◌, eqb, List, [], ◌∷◌, length, map, refl, sym, ◌∙◌, ap, eq-eqb}
 use Rattle.std.specs.List.{filter, flat_map, list_any, AllByRecursion}
 use Rattle.std.proofs.lemmas.Bool.{or_parts, and_parts, and_from, eqb-true, false_from_ne_true, false≢true}
-use Rattle.op_model.specs.declared.Dataset.{Dataset}
-use Rattle.op_model.specs.declared.Base.{Base}
-use Rattle.op_model.specs.declared.Pair.{Pair}
-use Rattle.op_model.specs.declared.Edge.{Edge}
+use Rattle.op_model.specs.declared.base.Dataset.{Dataset}
+use Rattle.op_model.specs.declared.base.Base.{Base}
+use Rattle.op_model.specs.declared.base.Pair.{Pair}
+use Rattle.op_model.specs.declared.base.Edge.{Edge}
 use Rattle.op_model.specs.Chunks.{chunk, layers, top}
 use Rattle.op_model.specs.Edges.{same_pair, pair_before, put_edge, put_edges, put_changed, edges_after, joins, linked}
 use Rattle.op_model.specs.Ingest.{ingested}

@@ -4,11 +4,11 @@ use Rattle.std.proofs.Common.{◌≡◌, ℕ, ◌+◌, ◌-◌, ◌^◌, ◌<◌
 use Rattle.std.specs.List.{AllByRecursion, filter}
 use Rattle.std.proofs.lemmas.Bool.{false≢true, eqb-true, and_parts, and_right, or_parts, or_from, or_cases, or_left, or_right, cases_lt}
 use Rattle.node_ids.specs.Ids.{IsLayout}
-use Rattle.op_model.specs.declared.Dataset.{Dataset}
-use Rattle.op_model.specs.declared.Base.{Base}
-use Rattle.op_model.specs.declared.Edge.{Edge}
-use Rattle.op_model.specs.declared.Changed.{Changed}
-use Rattle.op_model.specs.declared.Entry.{Entry}
+use Rattle.op_model.specs.declared.base.Dataset.{Dataset}
+use Rattle.op_model.specs.declared.base.Base.{Base}
+use Rattle.op_model.specs.declared.base.Edge.{Edge}
+use Rattle.op_model.specs.declared.entry.Changed.{Changed}
+use Rattle.op_model.specs.declared.entry.Entry.{Entry}
 use Rattle.graph_model.specs.Lists.{has}
 use Rattle.graph_model.specs.Components.{component_of}
 use Rattle.op_model.specs.Edges.{linked, same_pair, edges_after}

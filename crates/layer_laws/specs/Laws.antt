@@ -1,9 +1,9 @@
 -- Laws over the layers.
 use Rattle.std.specs.Prelude.{◌≡◌, ℕ, ◌+◌, ◌-◌, ◌≤◌, ◌<◌, ◌^◌, ◌↔◌, ◌&&◌, ◌==◌, false, List, [], ◌∷◌, length, map, slice_index_or, IsTrue}
 use Rattle.std.specs.List.{range_with_len, list_any, AllByRecursion}
-use Rattle.op_model.specs.declared.Dataset.{Dataset}
-use Rattle.op_model.specs.declared.Base.{Base}
-use Rattle.op_model.specs.declared.Entry.{Entry}
+use Rattle.op_model.specs.declared.base.Dataset.{Dataset}
+use Rattle.op_model.specs.declared.base.Base.{Base}
+use Rattle.op_model.specs.declared.entry.Entry.{Entry}
 use Rattle.graph_model.specs.Lists.{has}
 use Rattle.graph_model.specs.Components.{Joined as JoinedBy}
 use Rattle.op_model.specs.Chunks.{chunk, members}
@@ -11,8 +11,8 @@ use Rattle.op_model.specs.Labels.{component, touches, least, used, label, node, 
 use Rattle.op_model.specs.Valid.{IsAscending}
 use Rattle.op_model.specs.Operations.{ends}
 use Rattle.op_model.specs.Edges.{joins}
-use Rattle.op_model.specs.declared.Edge.{Edge}
-use Rattle.op_model.specs.declared.Changed.{Changed}
+use Rattle.op_model.specs.declared.base.Edge.{Edge}
+use Rattle.op_model.specs.declared.entry.Changed.{Changed}
 use Rattle.node_ids.specs.Ids.{IsLayout}
 use Rattle.components.specs.Joining.{JoinedBelow, AreLeastMembers}
 use Rattle.layer_laws.specs.Building.{at, least_leaf, AreLeastLeaves, ArePairs}

@@ -1,9 +1,9 @@
 //! How many entries there are, and what the record of one tells.
 
 ghost use Rattle.std.specs.Prelude.{◌≡◌, ◌<◌, ◌||◌, ◌==◌, List, length, Some};
-ghost use Rattle.op_model.specs.declared.Dataset.{Dataset};
-ghost use Rattle.op_model.specs.declared.Base.{Base};
-ghost use Rattle.op_model.specs.declared.Entry.{Entry};
+ghost use Rattle.op_model.specs.declared.base.Dataset.{Dataset};
+ghost use Rattle.op_model.specs.declared.base.Base.{Base};
+ghost use Rattle.op_model.specs.declared.entry.Entry.{Entry};
 ghost use Rattle.op_model.specs.Operations.{undoes, redoes, entry_at, last_about};
 ghost use Rattle.record_rows.specs.Readings.{ParentImage};
 ghost use Rattle.log_rows.specs.Entries.{AtEntry, HoldsEntry};

@@ -1,10 +1,10 @@
 //! The record of one entry, and the way to the entry before.
 
 ghost use Rattle.std.specs.Prelude.{◌≡◌, ◌-◌, List, length};
-ghost use Rattle.op_model.specs.declared.Dataset.{Dataset};
-ghost use Rattle.op_model.specs.declared.Base.{Base};
-ghost use Rattle.op_model.specs.declared.Asked.{Asked};
-ghost use Rattle.op_model.specs.declared.Entry.{Entry};
+ghost use Rattle.op_model.specs.declared.base.Dataset.{Dataset};
+ghost use Rattle.op_model.specs.declared.base.Base.{Base};
+ghost use Rattle.op_model.specs.declared.entry.Asked.{Asked};
+ghost use Rattle.op_model.specs.declared.entry.Entry.{Entry};
 ghost use Rattle.op_model.specs.Answers.{kind_of};
 ghost use Rattle.record_rows.specs.Chains.{entry_before};
 ghost use Rattle.record_rows.specs.Words.{kind_code};

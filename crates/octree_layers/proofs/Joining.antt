@@ -4,9 +4,9 @@ use Rattle.std.specs.List.{AllByRecursion, All, filter, list_any}
 use Rattle.std.proofs.lemmas.List.Elements.{All-from_recursion, recursion_from_All}
 use Rattle.std.proofs.lemmas.List.Sorted.{All-permutation, list_any-IsPermutation}
 use Rattle.std.proofs.lemmas.Bool.{eqb-true, and_parts, and_from, or_left, or_right, or_cases}
-use Rattle.op_model.specs.declared.Dataset.{Dataset}
-use Rattle.op_model.specs.declared.Base.{Base}
-use Rattle.op_model.specs.declared.Edge.{Edge}
+use Rattle.op_model.specs.declared.base.Dataset.{Dataset}
+use Rattle.op_model.specs.declared.base.Base.{Base}
+use Rattle.op_model.specs.declared.base.Edge.{Edge}
 use Rattle.op_model.specs.Edges.{joins, linked}
 use Rattle.op_model.specs.Labels.{edges}
 use Rattle.op_model.specs.Valid.{IsBase, IsDataset, IsEdge}

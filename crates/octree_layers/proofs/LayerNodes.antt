@@ -7,8 +7,8 @@ use Rattle.std.proofs.lemmas.List.Elements.{All-from_recursion, recursion_from_A
 use Rattle.std.proofs.lemmas.List.Sorted.{All-permutation, length_permutation, list_any-IsPermutation}
 use Rattle.std.proofs.lemmas.Bool.{eqb-true, leb-false, and_parts, and_from, cases_lt, or_left, or_right, or_cases}
 use Rattle.node_ids.specs.Ids.{segments, width, id_of, id_over}
-use Rattle.op_model.specs.declared.Dataset.{Dataset}
-use Rattle.op_model.specs.declared.Base.{Base}
+use Rattle.op_model.specs.declared.base.Dataset.{Dataset}
+use Rattle.op_model.specs.declared.base.Base.{Base}
 use Rattle.graph_model.specs.Lists.{has, head_or}
 use Rattle.op_model.specs.Chunks.{chunk, members, top}
 use Rattle.op_model.specs.Labels.{is_empty, is_new, component, least, new_among, used, label, node}

@@ -8,8 +8,8 @@ use Rattle.std.proofs.lemmas.List.Sorted.{IsNonDecreasingBy-drop}
 use Rattle.std.proofs.lemmas.Bool.{eqb-true, ne_eqb, ltb-true, ltb-false, leb-true, leb-false, le-leb, cases_lt}
 use Rattle.chunk_geometry.specs.declared.Cell.{Cell}
 use Rattle.chunk_geometry.specs.Levels.{level as level_of}
-use Rattle.op_model.specs.declared.Dataset.{Dataset}
-use Rattle.op_model.specs.declared.Base.{Base}
+use Rattle.op_model.specs.declared.base.Dataset.{Dataset}
+use Rattle.op_model.specs.declared.base.Base.{Base}
 use Rattle.op_model.specs.Chunks.{cell}
 use Rattle.layer_laws.specs.Levels.{level}
 use Rattle.octree_layers.specs.declared.levels.PlacedEdge.{PlacedEdge}

@@ -7,8 +7,8 @@ use Rattle.std.proofs.Math.Nat.{mod-eq_of_lt}
 use Rattle.std.proofs.lemmas.Nat.{pow_pos}
 use Rattle.std.proofs.lemmas.List.{at_drop_more, map-append}
 use Rattle.std.proofs.lemmas.List.Elements.{filter-append}
-use Rattle.op_model.specs.declared.Dataset.{Dataset}
-use Rattle.op_model.specs.declared.Base.{Base}
+use Rattle.op_model.specs.declared.base.Dataset.{Dataset}
+use Rattle.op_model.specs.declared.base.Base.{Base}
 use Rattle.octree_layers.specs.declared.numbering.Owner.{Owner}
 use Rattle.octree_layers.specs.declared.numbering.Made.{Made}
 use Rattle.octree_layers.specs.Numbers.{owner, owner_at, number_behind, numbered, overflow}

@@ -1,9 +1,9 @@
 -- Places of supervoxels in the base's ascending list, and edges between places.
 use Rattle.std.specs.Prelude.{◌≡◌, ℕ, ◌+◌, ◌==◌, if◌then◌else◌, List, [], ◌∷◌, map}
 use Rattle.std.specs.List.{All}
-use Rattle.op_model.specs.declared.Dataset.{Dataset}
-use Rattle.op_model.specs.declared.Base.{Base}
-use Rattle.op_model.specs.declared.Edge.{Edge}
+use Rattle.op_model.specs.declared.base.Dataset.{Dataset}
+use Rattle.op_model.specs.declared.base.Base.{Base}
+use Rattle.op_model.specs.declared.base.Edge.{Edge}
 use Rattle.layer_laws.specs.Levels.{level}
 use Rattle.base_rows.specs.declared.lists.BaseEdge.{BaseEdge}
 use Rattle.base_rows.specs.Lists.{IsPlaced}

@@ -2,9 +2,9 @@
 use Rattle.std.specs.Prelude.{◌≡◌, ℕ, ◌≤◌, ◌<◌, nat_le, List, [], ◌∷◌, map, Option, Some, None}
 use Rattle.std.specs.List.{find}
 use Rattle.node_ids.specs.Ids.{segments}
-use Rattle.op_model.specs.declared.Dataset.{Dataset}
-use Rattle.op_model.specs.declared.Base.{Base}
-use Rattle.op_model.specs.declared.Entry.{Entry}
+use Rattle.op_model.specs.declared.base.Dataset.{Dataset}
+use Rattle.op_model.specs.declared.base.Base.{Base}
+use Rattle.op_model.specs.declared.entry.Entry.{Entry}
 use Rattle.op_model.specs.Chunks.{chunk, top}
 use Rattle.op_model.specs.Labels.{used}
 use Rattle.op_model.specs.Operations.{ascending, first_entry}

@@ -3,9 +3,9 @@ use Rattle.std.proofs.Common.{◌≡◌, ℕ, zero, suc, ◌+◌, ◌<◌, ◌�
 use Rattle.std.specs.Option.{IfSome}
 use Rattle.std.specs.List.{slice_get, last_or}
 use Rattle.std.proofs.lemmas.Bool.{false≢true, eqb-true, eq-eqb}
-use Rattle.op_model.specs.declared.Dataset.{Dataset}
-use Rattle.op_model.specs.declared.Base.{Base}
-use Rattle.op_model.specs.declared.Entry.{Entry}
+use Rattle.op_model.specs.declared.base.Dataset.{Dataset}
+use Rattle.op_model.specs.declared.base.Base.{Base}
+use Rattle.op_model.specs.declared.entry.Entry.{Entry}
 use Rattle.op_model.specs.Valid.{IsDataset, IsBase}
 use Rattle.op_model.specs.Legal.{Legal}
 use Rattle.record_rows.proofs.NodeIds.{node_small}

@@ -1,9 +1,9 @@
 -- Steps within a run: the nodes that one entry made in one chunk.
 use Rattle.std.proofs.Common.{◌≡◌, ℕ, ◌+◌, ◌-◌, ◌*◌, ◌%◌, ◌^◌, ◌<◌, ◌≤◌, zero, suc, List, [], ◌∷◌, length, get_or, Option, Some, refl, sym, ◌∙◌, ap, arith}
 use Rattle.node_ids.specs.Ids.{LayoutForm, parts_of}
-use Rattle.op_model.specs.declared.Dataset.{Dataset}
-use Rattle.op_model.specs.declared.Base.{Base}
-use Rattle.op_model.specs.declared.Entry.{Entry}
+use Rattle.op_model.specs.declared.base.Dataset.{Dataset}
+use Rattle.op_model.specs.declared.base.Base.{Base}
+use Rattle.op_model.specs.declared.entry.Entry.{Entry}
 use Rattle.record_rows.specs.Rows.{Row, NodeRow, LinkRow, Node, Link}
 use Rattle.record_rows.specs.Images.{told}
 use Rattle.record_rows.specs.Words.{fixed_words}

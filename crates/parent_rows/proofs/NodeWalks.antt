@@ -2,9 +2,9 @@
 use Rattle.std.proofs.Common.{◌≡◌, ℕ, ◌<◌, ◌≤◌, true, false, List, [], ◌∷◌, ◌++◌, Option, Some, None, refl, sym, ◌∙◌, ap, subst, eq-eqb, append-nil, append_assoc}
 use Rattle.std.specs.List.{slice_get, filter_map, cons_option}
 use Rattle.std.proofs.lemmas.Bool.{false≢true, eqb-true, lt-ltb, le-ltb}
-use Rattle.op_model.specs.declared.Dataset.{Dataset}
-use Rattle.op_model.specs.declared.Base.{Base}
-use Rattle.op_model.specs.declared.Entry.{Entry}
+use Rattle.op_model.specs.declared.base.Dataset.{Dataset}
+use Rattle.op_model.specs.declared.base.Base.{Base}
+use Rattle.op_model.specs.declared.entry.Entry.{Entry}
 use Rattle.record_rows.specs.Rows.{Row, LinkRow, EntryRow, Node, Link}
 use Rattle.record_rows.specs.Chains.{child_of, retires}
 use Rattle.record_rows.specs.LogRows.{rows_of}

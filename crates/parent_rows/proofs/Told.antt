@@ -1,9 +1,9 @@
 -- What each pointer and each fixed word that is read comes to.
 use Rattle.std.proofs.Common.{◌≡◌, ℕ, ◌+◌, ◌*◌, ◌<◌, ◌≤◌, ◌^◌, true, List, length, arith, get_or, Option, refl, ◌∙◌, ap}
 use Rattle.std.proofs.lemmas.Bool.{false≢true, eqb-true}
-use Rattle.op_model.specs.declared.Dataset.{Dataset}
-use Rattle.op_model.specs.declared.Base.{Base}
-use Rattle.op_model.specs.declared.Entry.{Entry}
+use Rattle.op_model.specs.declared.base.Dataset.{Dataset}
+use Rattle.op_model.specs.declared.base.Base.{Base}
+use Rattle.op_model.specs.declared.entry.Entry.{Entry}
 use Rattle.record_rows.specs.Rows.{Row, SupervoxelRow, ChunkRow, NodeRow, LinkRow, EntryRow, Node, Link}
 use Rattle.record_rows.specs.Chains.{version_of, child_of, node_in, is_node, has_id, retires}
 use Rattle.record_rows.specs.Chains.{aims}

@@ -1,9 +1,9 @@
 //! The nodes of a chunk, which stand in one chain and ascend along it.
 
 ghost use Rattle.std.specs.Prelude.{◌≡◌, ℕ, ◌<◌, ◌≤◌, List, IfSome};
-ghost use Rattle.op_model.specs.declared.Dataset.{Dataset};
-ghost use Rattle.op_model.specs.declared.Base.{Base};
-ghost use Rattle.op_model.specs.declared.Entry.{Entry};
+ghost use Rattle.op_model.specs.declared.base.Dataset.{Dataset};
+ghost use Rattle.op_model.specs.declared.base.Base.{Base};
+ghost use Rattle.op_model.specs.declared.entry.Entry.{Entry};
 ghost use Rattle.record_rows.specs.Rows.{Node};
 ghost use Rattle.record_rows.specs.Chains.{node_in};
 ghost use Rattle.record_rows.specs.LogRows.{rows_of};

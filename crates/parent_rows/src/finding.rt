@@ -1,9 +1,9 @@
 //! The records of supervoxels, chunks and nodes, found by their ids.
 
 ghost use Rattle.std.specs.Prelude.{◌≡◌, ℕ, ◌≤◌, ◌-◌, ◌/◌, ◌^◌, List, length, slice_index};
-ghost use Rattle.op_model.specs.declared.Dataset.{Dataset};
-ghost use Rattle.op_model.specs.declared.Base.{Base};
-ghost use Rattle.op_model.specs.declared.Entry.{Entry};
+ghost use Rattle.op_model.specs.declared.base.Dataset.{Dataset};
+ghost use Rattle.op_model.specs.declared.base.Base.{Base};
+ghost use Rattle.op_model.specs.declared.entry.Entry.{Entry};
 ghost use Rattle.record_rows.specs.Chains.{has_id};
 ghost use Rattle.record_rows.specs.LogRows.{rows_of};
 ghost use Rattle.record_rows.specs.Readings.{HoldsChunk, ParentImage, first_place};

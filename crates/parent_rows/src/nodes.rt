@@ -1,9 +1,9 @@
 //! What a node's record tells, and its children.
 
 ghost use Rattle.std.specs.Prelude.{◌≡◌, ℕ, List, IfOk, OnOk, ◌++◌, ◌∷◌, []};
-ghost use Rattle.op_model.specs.declared.Dataset.{Dataset};
-ghost use Rattle.op_model.specs.declared.Base.{Base};
-ghost use Rattle.op_model.specs.declared.Entry.{Entry};
+ghost use Rattle.op_model.specs.declared.base.Dataset.{Dataset};
+ghost use Rattle.op_model.specs.declared.base.Base.{Base};
+ghost use Rattle.op_model.specs.declared.entry.Entry.{Entry};
 ghost use Rattle.op_model.specs.Valid.{IsAscending};
 ghost use Rattle.op_model.specs.Lists.{head_or};
 ghost use Rattle.record_rows.specs.Rows.{Node, Link, LinkRow, EntryRow};

@@ -2,9 +2,9 @@
 //! that the chain of a chunk need not be followed node by node.
 
 ghost use Rattle.std.specs.Prelude.{◌≡◌, ℕ, ◌<◌, ◌≤◌, ◌-◌, List, true, IfSome};
-ghost use Rattle.op_model.specs.declared.Dataset.{Dataset};
-ghost use Rattle.op_model.specs.declared.Base.{Base};
-ghost use Rattle.op_model.specs.declared.Entry.{Entry};
+ghost use Rattle.op_model.specs.declared.base.Dataset.{Dataset};
+ghost use Rattle.op_model.specs.declared.base.Base.{Base};
+ghost use Rattle.op_model.specs.declared.entry.Entry.{Entry};
 ghost use Rattle.record_rows.specs.Inner.{IsInner};
 ghost use Rattle.record_rows.specs.Rows.{Node, Row};
 ghost use Rattle.record_rows.specs.Readings.{Holds, HoldsNode, ParentImage};

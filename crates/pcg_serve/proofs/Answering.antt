@@ -1,18 +1,18 @@
 -- Replies to single lines, over the log of the first entry.
 use Rattle.std.proofs.Common.{◌≡◌, ℕ, List, [], ◌∷◌, length, Option, Some, None, Result, Ok, Err, refl, sym, ◌∙◌, ap, subst, inl, inr, arith}
 use Rattle.std.specs.Prelude.{◌⊎◌}
-use Rattle.op_model.specs.declared.Dataset.{Dataset}
-use Rattle.op_model.specs.declared.Base.{Base}
-use Rattle.op_model.specs.declared.Entry.{Entry}
-use Rattle.op_model.specs.declared.LineError.{LineError}
-use Rattle.op_model.specs.declared.LineError.TheVariants as errors
-use Rattle.op_model.specs.declared.Read.{Read}
-use Rattle.op_model.specs.declared.Read.TheVariants as read
-use Rattle.op_model.specs.declared.Refusal.{Refusal}
-use Rattle.op_model.specs.declared.Request.{Request}
-use Rattle.op_model.specs.declared.Request.TheVariants as request
-use Rattle.op_model.specs.declared.Reply.{Reply}
-use Rattle.op_model.specs.declared.Reply.TheVariants as reply
+use Rattle.op_model.specs.declared.base.Dataset.{Dataset}
+use Rattle.op_model.specs.declared.base.Base.{Base}
+use Rattle.op_model.specs.declared.entry.Entry.{Entry}
+use Rattle.op_model.specs.declared.request.LineError.{LineError}
+use Rattle.op_model.specs.declared.request.LineError.TheVariants as errors
+use Rattle.op_model.specs.declared.request.Read.{Read}
+use Rattle.op_model.specs.declared.request.Read.TheVariants as read
+use Rattle.op_model.specs.declared.reply.Refusal.{Refusal}
+use Rattle.op_model.specs.declared.request.Request.{Request}
+use Rattle.op_model.specs.declared.request.Request.TheVariants as request
+use Rattle.op_model.specs.declared.reply.Reply.{Reply}
+use Rattle.op_model.specs.declared.reply.Reply.TheVariants as reply
 use Rattle.op_model.specs.Refusals.{refuse_read, refused}
 use Rattle.op_model.specs.Answers.{answer}
 use Rattle.op_model.specs.Transcript.{Asks, Faulty, Unbuilt, Line, read_reply, log_at}

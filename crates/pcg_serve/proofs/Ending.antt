@@ -3,7 +3,7 @@ use Rattle.std.proofs.Common.{◌≡◌, ℕ, true, List, [], ◌++◌, Option, 
 use Rattle.std.specs.Prelude.{◌⊎◌, ◌↔◌, IsSome, is_some, option_to_list, Result, Ok, Err, IfOk}
 use Rattle.std.specs.FinMap.{get, insert}
 use Rattle.std.specs.Io.KnownBytes.{Appends, Consumes, IsAtEnd}
-use Rattle.op_model.specs.declared.Reply.{Reply}
+use Rattle.op_model.specs.declared.reply.Reply.{Reply}
 use Rattle.request_lines.specs.Texts.{text_of_reply}
 use Rattle.pcg_base.specs.Told.{Files, KeepsFiles, PutsFile, PutsHeld, TellsAt, TellsTo, AppendsFront}
 use Rattle.pcg_words.specs.Job.{request_file, answer_file}

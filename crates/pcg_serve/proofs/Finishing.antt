@@ -5,10 +5,10 @@ use Rattle.std.proofs.lemmas.Bool.{le-leb}
 use Rattle.std.specs.Io.KnownBytes.{Appends}
 use Rattle.graph_model.specs.Lists.{has}
 use Rattle.graph_model.specs.Components.{Joined as JoinedBy}
-use Rattle.op_model.specs.declared.Dataset.{Dataset}
-use Rattle.op_model.specs.declared.Base.{Base}
-use Rattle.op_model.specs.declared.Entry.{Entry}
-use Rattle.op_model.specs.declared.Reply.{Reply}
+use Rattle.op_model.specs.declared.base.Dataset.{Dataset}
+use Rattle.op_model.specs.declared.base.Base.{Base}
+use Rattle.op_model.specs.declared.entry.Entry.{Entry}
+use Rattle.op_model.specs.declared.reply.Reply.{Reply}
 use Rattle.op_model.specs.Edges.{linked}
 use Rattle.op_model.specs.Labels.{edges, root}
 use Rattle.op_model.specs.Answers.{leaves}

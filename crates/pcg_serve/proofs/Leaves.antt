@@ -3,11 +3,11 @@ use Rattle.std.proofs.Common.{◌≡◌, ℕ, true, List, [], ◌∷◌, map, co
 use Rattle.std.proofs.lemmas.Bool.{eqb-true}
 use Rattle.graph_model.specs.Lists.{has}
 use Rattle.graph_model.proofs.ListLemmas.{filter_has, filter_only}
-use Rattle.op_model.specs.declared.Dataset.{Dataset}
-use Rattle.op_model.specs.declared.Base.{Base}
-use Rattle.op_model.specs.declared.Changed.{Changed}
-use Rattle.op_model.specs.declared.Entry.{Entry}
-use Rattle.op_model.specs.declared.Asked.TheVariants as asked
+use Rattle.op_model.specs.declared.base.Dataset.{Dataset}
+use Rattle.op_model.specs.declared.base.Base.{Base}
+use Rattle.op_model.specs.declared.entry.Changed.{Changed}
+use Rattle.op_model.specs.declared.entry.Entry.{Entry}
+use Rattle.op_model.specs.declared.entry.Asked.TheVariants as asked
 use Rattle.op_model.specs.Edges.{edges_after}
 use Rattle.op_model.specs.Labels.{edges, component, least, is_new, new_among, rank, label, node, root}
 use Rattle.op_model.specs.Operations.{ascending, first_entry}

@@ -4,7 +4,7 @@ use Rattle.pcg_serve.specs.declared.ingest.Begun.{Begun}
 use Rattle.std.specs.Prelude.{Result, Ok, Err, IfErr, IfOk, option_to_list, ◌≢◌, ◌||◌, ◌&&◌, not, IsTrue}
 use Rattle.std.proofs.lemmas.Bool.{false≢true}
 use Rattle.std.proofs.lemmas.Slice.Eq.{bytes_eq-Decides}
-use Rattle.op_model.specs.declared.Base.{Base}
+use Rattle.op_model.specs.declared.base.Base.{Base}
 use Rattle.pcg_base.specs.Told.{Files, KeepsFiles, IsLongerAt}
 use Rattle.pcg_words.specs.declared.job.RehearseJob.{RehearseJob}
 use Rattle.pcg_words.specs.Job.{IsJob, all_differ, client_files, job_files, request_file}

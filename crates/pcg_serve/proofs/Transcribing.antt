@@ -3,12 +3,12 @@ use Rattle.std.proofs.Common.{◌≡◌, ℕ, ◌+◌, false, List, [], ◌∷�
 use Rattle.std.specs.Prelude.{option_to_list, is_some, reverse, ◌==◌}
 use Rattle.std.specs.Io.KnownBytes.{Appends, Consumes, IsAtEnd}
 use Rattle.std.proofs.lemmas.List.{append-nil}
-use Rattle.op_model.specs.declared.Dataset.{Dataset}
-use Rattle.op_model.specs.declared.Base.{Base}
-use Rattle.op_model.specs.declared.Entry.{Entry}
-use Rattle.op_model.specs.declared.Reply.{Reply}
-use Rattle.op_model.specs.declared.Reply.TheVariants as reply
-use Rattle.op_model.specs.declared.Request.TheVariants as request
+use Rattle.op_model.specs.declared.base.Dataset.{Dataset}
+use Rattle.op_model.specs.declared.base.Base.{Base}
+use Rattle.op_model.specs.declared.entry.Entry.{Entry}
+use Rattle.op_model.specs.declared.reply.Reply.{Reply}
+use Rattle.op_model.specs.declared.reply.Reply.TheVariants as reply
+use Rattle.op_model.specs.declared.request.Request.TheVariants as request
 use Rattle.op_model.specs.Operations.{first_entry}
 use Rattle.op_model.specs.Transcript.{Line, Asks, Faulty, Unbuilt, Transcript, WholeTranscript, entries_of}
 use Rattle.pcg_serve.specs.declared.ingest.Ingest.{Ingest}

@@ -1,16 +1,16 @@
 -- What a client gets to its lines, over the log of the first entry.
 use Rattle.std.specs.Prelude.{◌≡◌, ℕ, ◌+◌, if◌then◌else◌, Bool, true, false, ◌++◌, List, [], ◌∷◌, map, length, count_by, is_some, option_to_list, ⊤, Option, Some, None, Result, Ok, Err}
 use Rattle.std.specs.Io.KnownBytes.{Appends}
-use Rattle.op_model.specs.declared.Dataset.{Dataset}
-use Rattle.op_model.specs.declared.Base.{Base}
-use Rattle.op_model.specs.declared.Entry.{Entry}
-use Rattle.op_model.specs.declared.Reply.{Reply}
-use Rattle.op_model.specs.declared.Reply.TheVariants as reply
-use Rattle.op_model.specs.declared.LineError.{LineError}
-use Rattle.op_model.specs.declared.LineError.TheVariants as errors
-use Rattle.op_model.specs.declared.Read.TheVariants as read
-use Rattle.op_model.specs.declared.Request.{Request}
-use Rattle.op_model.specs.declared.Request.TheVariants as request
+use Rattle.op_model.specs.declared.base.Dataset.{Dataset}
+use Rattle.op_model.specs.declared.base.Base.{Base}
+use Rattle.op_model.specs.declared.entry.Entry.{Entry}
+use Rattle.op_model.specs.declared.reply.Reply.{Reply}
+use Rattle.op_model.specs.declared.reply.Reply.TheVariants as reply
+use Rattle.op_model.specs.declared.request.LineError.{LineError}
+use Rattle.op_model.specs.declared.request.LineError.TheVariants as errors
+use Rattle.op_model.specs.declared.request.Read.TheVariants as read
+use Rattle.op_model.specs.declared.request.Request.{Request}
+use Rattle.op_model.specs.declared.request.Request.TheVariants as request
 use Rattle.op_model.specs.Transcript.{Line, Asks, Faulty, Unbuilt, Transcript}
 use Rattle.request_lines.specs.Lines.{lines_of}
 use Rattle.request_lines.specs.Asking.{asked}

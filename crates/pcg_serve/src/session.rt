@@ -1,9 +1,9 @@
 //! A client's session: each line of its requests gets one reply.
 
 ghost use Rattle.std.specs.Prelude.{◌≡◌, ◌≤◌, ◌<◌, ◌+◌, ◌^◌, ◌∷◌, [], Ok, length, IsTrue};
-ghost use Rattle.op_model.specs.declared.Dataset.{Dataset};
-ghost use Rattle.op_model.specs.declared.Base.{Base};
-ghost use Rattle.op_model.specs.declared.Entry.{Entry};
+ghost use Rattle.op_model.specs.declared.base.Dataset.{Dataset};
+ghost use Rattle.op_model.specs.declared.base.Base.{Base};
+ghost use Rattle.op_model.specs.declared.entry.Entry.{Entry};
 ghost use Rattle.pcg_base.specs.Causes.{Rose};
 ghost use Rattle.record_rows.specs.Readings.{Image};
 

@@ -6,8 +6,8 @@ use Rattle.std.proofs.lemmas.Bool.{cond_both, ltb-true, and_parts}
 use Rattle.graph_model.specs.Lists.{has}
 use Rattle.graph_model.proofs.ListLemmas.{has_head, has_tail, filter_length}
 use Rattle.node_ids.specs.Ids.{IsLayout, LayoutForm, width, segments}
-use Rattle.op_model.specs.declared.Dataset.{Dataset}
-use Rattle.op_model.specs.declared.Base.{Base}
+use Rattle.op_model.specs.declared.base.Dataset.{Dataset}
+use Rattle.op_model.specs.declared.base.Base.{Base}
 use Rattle.op_model.specs.Chunks.{chunk, members, layers}
 use Rattle.op_model.specs.Labels.{is_new, label, least, new_among, used}
 use Rattle.op_model.specs.Legal.{Legal, LabelsFit}

@@ -9,7 +9,7 @@ use Rattle.graph_model.specs.Lists.{has}
 use Rattle.graph_model.specs.Components.{Joined, grow, reached, component_of}
 use Rattle.graph_model.proofs.ListLemmas.{contra, same_bool, has_head, has_tail, has_none, has_cases, has_length, filter_has, filter_only, filter_length, filter_same, filter_more}
 use Rattle.graph_model.proofs.Components.{IsClosed, Joined_one, Joined_snoc, Joined_stays, component_joined}
-use Rattle.op_model.specs.declared.Edge.{Edge}
+use Rattle.op_model.specs.declared.base.Edge.{Edge}
 use Rattle.op_model.specs.Edges.{joins, linked}
 use Rattle.plain_hierarchy.specs.Growth.{Grows, IsCounted, IsFresh}
 

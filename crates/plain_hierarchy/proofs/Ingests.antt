@@ -2,10 +2,10 @@
 use Rattle.std.proofs.Common.{◌≡◌, ℕ, ◌+◌, true, List, [], map, refl, sym, ◌∙◌, ap}
 use mathlib.Core.Path.{ap₂}
 use Rattle.std.proofs.Math.Nat.{zero-add}
-use Rattle.op_model.specs.declared.Dataset.{Dataset}
-use Rattle.op_model.specs.declared.Base.{Base}
-use Rattle.op_model.specs.declared.Asked.TheVariants as asked
-use Rattle.op_model.specs.declared.Entry.{Entry}
+use Rattle.op_model.specs.declared.base.Dataset.{Dataset}
+use Rattle.op_model.specs.declared.base.Base.{Base}
+use Rattle.op_model.specs.declared.entry.Asked.TheVariants as asked
+use Rattle.op_model.specs.declared.entry.Entry.{Entry}
 use Rattle.graph_model.specs.Lists.{has}
 use Rattle.graph_model.specs.Components.{component_of}
 use Rattle.op_model.specs.Edges.{put_changed, edges_after, linked}

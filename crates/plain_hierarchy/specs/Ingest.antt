@@ -1,8 +1,8 @@
 -- The nodes of the first entry.
 use Rattle.std.specs.Prelude.{ℕ, ◌==◌, nat_le, List, length}
 use Rattle.std.specs.List.{filter}
-use Rattle.op_model.specs.declared.Dataset.{Dataset}
-use Rattle.op_model.specs.declared.Base.{Base}
+use Rattle.op_model.specs.declared.base.Dataset.{Dataset}
+use Rattle.op_model.specs.declared.base.Base.{Base}
 use Rattle.op_model.specs.Ingest.{ingested}
 use Rattle.op_model.specs.Labels.{least}
 

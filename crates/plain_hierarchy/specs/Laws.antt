@@ -1,7 +1,7 @@
 -- Laws over the first entry.
 use Rattle.std.specs.Prelude.{ℕ, ◌≤◌, ◌<◌, ◌^◌, [], ◌∷◌, length}
-use Rattle.op_model.specs.declared.Dataset.{Dataset}
-use Rattle.op_model.specs.declared.Base.{Base}
+use Rattle.op_model.specs.declared.base.Dataset.{Dataset}
+use Rattle.op_model.specs.declared.base.Base.{Base}
 use Rattle.op_model.specs.Legal.{Legal}
 use Rattle.op_model.specs.Operations.{first_entry}
 use Rattle.op_model.specs.Valid.{IsDataset}

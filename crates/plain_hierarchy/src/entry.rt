@@ -1,7 +1,7 @@
 //! The entry of the ingest.
 
 ghost use Rattle.std.specs.Prelude.{◌≡◌, ◌≤◌, ◌<◌, ◌^◌, ℕ, List, [], ◌∷◌, map, length, IfOk};
-ghost use Rattle.op_model.specs.declared.Asked.TheVariants as Asked;
+ghost use Rattle.op_model.specs.declared.entry.Asked.TheVariants as Asked;
 ghost use Rattle.op_model.specs.Labels.{root};
 ghost use Rattle.op_model.specs.Operations.{first_entry};
 ghost use Rattle.op_model.specs.Valid.{IsBase, IsDataset};

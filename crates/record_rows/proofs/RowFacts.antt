@@ -2,11 +2,11 @@
 use Rattle.std.proofs.Common.{◌≡◌, ℕ, zero, suc, ◌<◌, ◌≤◌, Bool, true, eqb, List, [], ◌∷◌, ◌++◌, length, map, Some, refl, ap, subst, inl, inr, eq-eqb, arith, length-append}
 use Rattle.std.specs.List.{AllByRecursion, slice_get, list_any, flat_map}
 use Rattle.std.proofs.lemmas.Bool.{false≢true, or_left, or_right, or_cases}
-use Rattle.op_model.specs.declared.Dataset.{Dataset}
-use Rattle.op_model.specs.declared.Base.{Base}
-use Rattle.op_model.specs.declared.Edge.{Edge}
-use Rattle.op_model.specs.declared.Changed.{Changed}
-use Rattle.op_model.specs.declared.Entry.{Entry}
+use Rattle.op_model.specs.declared.base.Dataset.{Dataset}
+use Rattle.op_model.specs.declared.base.Base.{Base}
+use Rattle.op_model.specs.declared.base.Edge.{Edge}
+use Rattle.op_model.specs.declared.entry.Changed.{Changed}
+use Rattle.op_model.specs.declared.entry.Entry.{Entry}
 use Rattle.op_model.specs.Chunks.{layers, members}
 use Rattle.op_model.specs.Labels.{new_among}
 use Rattle.op_model.specs.Operations.{first_entry, next_entry, entry_of}

@@ -1,9 +1,9 @@
 -- Words of records that aren't told of nodes and parents may be anything.
 use Rattle.std.proofs.Common.{◌≡◌, ℕ, zero, suc, ◌+◌, ◌*◌, ◌<◌, Bool, false, List, [], ◌∷◌, length, set, Some, ap, arith}
 use Rattle.std.specs.List.{AllByRecursion, slice_get}
-use Rattle.op_model.specs.declared.Dataset.{Dataset}
-use Rattle.op_model.specs.declared.Base.{Base}
-use Rattle.op_model.specs.declared.Entry.{Entry}
+use Rattle.op_model.specs.declared.base.Dataset.{Dataset}
+use Rattle.op_model.specs.declared.base.Base.{Base}
+use Rattle.op_model.specs.declared.entry.Entry.{Entry}
 use Rattle.record_rows.specs.Images.{told}
 use Rattle.record_rows.specs.Rows.{Row}
 use Rattle.record_rows.specs.Readings.{Holds, ParentImage}

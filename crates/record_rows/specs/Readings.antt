@@ -1,11 +1,11 @@
 -- What readers of words go by: the log that the words are the image of, and the places of its records.
 use Rattle.std.specs.Prelude.{◌≡◌, ℕ, ◌+◌, ◌^◌, ◌<◌, ◌≤◌, Bool, true, ◌==◌, if◌then◌else◌, List, [], ◌∷◌, drop, Option, Some, None}
 use Rattle.std.specs.List.{AllByRecursion, slice_get, last_or}
-use Rattle.op_model.specs.declared.Dataset.{Dataset}
-use Rattle.op_model.specs.declared.Base.{Base}
-use Rattle.op_model.specs.declared.Edge.{Edge}
-use Rattle.op_model.specs.declared.Changed.{Changed}
-use Rattle.op_model.specs.declared.Entry.{Entry}
+use Rattle.op_model.specs.declared.base.Dataset.{Dataset}
+use Rattle.op_model.specs.declared.base.Base.{Base}
+use Rattle.op_model.specs.declared.base.Edge.{Edge}
+use Rattle.op_model.specs.declared.entry.Changed.{Changed}
+use Rattle.op_model.specs.declared.entry.Entry.{Entry}
 use Rattle.op_model.specs.Records.{records}
 use Rattle.op_model.specs.Valid.{IsDataset, IsBase}
 use Rattle.op_model.specs.Legal.{Legal}

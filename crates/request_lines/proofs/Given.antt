@@ -1,7 +1,7 @@
 -- What is meant is given, if it is what was found or if memory ran out.
 use Rattle.std.proofs.Common.{◌≡◌, Result, Ok, Err, refl, sym}
-use Rattle.op_model.specs.declared.LineError.{LineError}
-use Rattle.op_model.specs.declared.LineError.TheVariants as errors
+use Rattle.op_model.specs.declared.request.LineError.{LineError}
+use Rattle.op_model.specs.declared.request.LineError.TheVariants as errors
 use Rattle.request_lines.specs.Asking.{Gives, ◌>>=◌}
 
 -- what was found is what is meant

@@ -1,6 +1,6 @@
 -- A merge of other than one pair lists its pairs.
 use Rattle.std.proofs.Common.{◌≡◌, ◌==◌, false, arith, List, [], ◌∷◌, ◌++◌, map, codes, length, refl}
-use Rattle.op_model.specs.declared.AskedPair.{AskedPair}
+use Rattle.op_model.specs.declared.request.AskedPair.{AskedPair}
 use Rattle.request_lines.specs.Json.{array}
 use Rattle.request_lines.specs.Items.{asked_pair_text}
 use Rattle.request_lines.specs.Texts.{merge_text}

@@ -2,15 +2,15 @@
 use Rattle.std.specs.Prelude.{◌≡◌, ℕ, List, [], ◌∷◌, if◌then◌else◌, Option, Some, None, Result, Ok, Err, codes, bytes_eq, ⊤, is_some, option_map}
 use Rattle.serde_json.specs.Data.{Data}
 use Rattle.serde_json.specs.Find.{get, as_object, as_str}
-use Rattle.op_model.specs.declared.AskedPair.{AskedPair}
-use Rattle.op_model.specs.declared.Read.TheVariants as read
-use Rattle.op_model.specs.declared.Edit.TheVariants as edit
-use Rattle.op_model.specs.declared.Request.{Request}
-use Rattle.op_model.specs.declared.Request.TheVariants as request
-use Rattle.op_model.specs.declared.FieldName.{FieldName}
-use Rattle.op_model.specs.declared.FieldName.TheVariants as fields
-use Rattle.op_model.specs.declared.LineError.{LineError}
-use Rattle.op_model.specs.declared.LineError.TheVariants as errors
+use Rattle.op_model.specs.declared.request.AskedPair.{AskedPair}
+use Rattle.op_model.specs.declared.request.Read.TheVariants as read
+use Rattle.op_model.specs.declared.request.Edit.TheVariants as edit
+use Rattle.op_model.specs.declared.request.Request.{Request}
+use Rattle.op_model.specs.declared.request.Request.TheVariants as request
+use Rattle.op_model.specs.declared.request.FieldName.{FieldName}
+use Rattle.op_model.specs.declared.request.FieldName.TheVariants as fields
+use Rattle.op_model.specs.declared.request.LineError.{LineError}
+use Rattle.op_model.specs.declared.request.LineError.TheVariants as errors
 use Rattle.request_lines.specs.Refused.{field_name}
 use Rattle.request_lines.specs.Fields.{value_of, number_in, id_in, ids_in, pairs_in}
 

@@ -6,7 +6,7 @@ use Rattle.serde_json.specs.Data.{Data, Items, no_items, item}
 use Rattle.serde_json.specs.Find.{as_array, as_number, as_str, as_u64}
 use Rattle.serde_json.specs.Read.{read}
 use Rattle.node_ids.specs.Digits.{number_of}
-use Rattle.op_model.specs.declared.AskedPair.{AskedPair}
+use Rattle.op_model.specs.declared.request.AskedPair.{AskedPair}
 
 infixl 10 ◌>>=◌
 abbrev pub ◌>>=◌ : {A B : Type 0} → Option A → (A → Option B) → Option B

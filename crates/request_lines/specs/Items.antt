@@ -1,12 +1,12 @@
 -- The texts of what stands in lists.
 use Rattle.std.specs.Prelude.{ℕ, List, [], ◌∷◌, codes, decimal}
-use Rattle.op_model.specs.declared.Pair.{Pair}
-use Rattle.op_model.specs.declared.AskedPair.{AskedPair}
-use Rattle.op_model.specs.declared.Changed.{Changed}
-use Rattle.op_model.specs.declared.Carry.{Carry}
-use Rattle.op_model.specs.declared.Summary.{Summary}
-use Rattle.op_model.specs.declared.Kind.{Kind}
-use Rattle.op_model.specs.declared.Kind.TheVariants as kind
+use Rattle.op_model.specs.declared.base.Pair.{Pair}
+use Rattle.op_model.specs.declared.request.AskedPair.{AskedPair}
+use Rattle.op_model.specs.declared.entry.Changed.{Changed}
+use Rattle.op_model.specs.declared.entry.Carry.{Carry}
+use Rattle.op_model.specs.declared.reply.Summary.{Summary}
+use Rattle.op_model.specs.declared.entry.Kind.{Kind}
+use Rattle.op_model.specs.declared.entry.Kind.TheVariants as kind
 use Rattle.request_lines.specs.Json.{object, array, member, quoted, truth, id_text}
 
 -- ["a","b"]

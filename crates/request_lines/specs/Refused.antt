@@ -1,11 +1,11 @@
 -- The lines that answer what is refused. The keys of each line ascend.
 use Rattle.std.specs.Prelude.{ℕ, List, [], ◌∷◌, codes, decimal, false}
-use Rattle.op_model.specs.declared.Refusal.{Refusal}
-use Rattle.op_model.specs.declared.Refusal.TheVariants as refusal
-use Rattle.op_model.specs.declared.FieldName.{FieldName}
-use Rattle.op_model.specs.declared.FieldName.TheVariants as fields
-use Rattle.op_model.specs.declared.LineError.{LineError}
-use Rattle.op_model.specs.declared.LineError.TheVariants as error
+use Rattle.op_model.specs.declared.reply.Refusal.{Refusal}
+use Rattle.op_model.specs.declared.reply.Refusal.TheVariants as refusal
+use Rattle.op_model.specs.declared.request.FieldName.{FieldName}
+use Rattle.op_model.specs.declared.request.FieldName.TheVariants as fields
+use Rattle.op_model.specs.declared.request.LineError.{LineError}
+use Rattle.op_model.specs.declared.request.LineError.TheVariants as error
 use Rattle.request_lines.specs.Json.{line, member, quoted, truth, id_text}
 
 -- "ok":false

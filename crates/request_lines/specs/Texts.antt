@@ -1,14 +1,14 @@
 -- The texts of replies and of log lines. The keys of each object ascend.
 use Rattle.std.specs.Prelude.{ℕ, true, List, [], ◌∷◌, map, codes, decimal, Option, Some, None}
-use Rattle.op_model.specs.declared.AskedPair.{AskedPair}
-use Rattle.op_model.specs.declared.Edit.{Edit}
-use Rattle.op_model.specs.declared.Edit.TheVariants as edit
-use Rattle.op_model.specs.declared.Asked.{Asked}
-use Rattle.op_model.specs.declared.Asked.TheVariants as asked
-use Rattle.op_model.specs.declared.Entry.{Entry}
-use Rattle.op_model.specs.declared.Shown.{Shown}
-use Rattle.op_model.specs.declared.Reply.{Reply}
-use Rattle.op_model.specs.declared.Reply.TheVariants as reply
+use Rattle.op_model.specs.declared.request.AskedPair.{AskedPair}
+use Rattle.op_model.specs.declared.request.Edit.{Edit}
+use Rattle.op_model.specs.declared.request.Edit.TheVariants as edit
+use Rattle.op_model.specs.declared.entry.Asked.{Asked}
+use Rattle.op_model.specs.declared.entry.Asked.TheVariants as asked
+use Rattle.op_model.specs.declared.entry.Entry.{Entry}
+use Rattle.op_model.specs.declared.entry.Shown.{Shown}
+use Rattle.op_model.specs.declared.reply.Reply.{Reply}
+use Rattle.op_model.specs.declared.reply.Reply.TheVariants as reply
 use Rattle.request_lines.specs.Json.{object, array, line, member, quoted, truth, id_text}
 use Rattle.request_lines.specs.Items.{pair_text, asked_pair_text, changed_text, carry_text, summary_text}
 use Rattle.request_lines.specs.Refused.{bare, refused_text, bad_line_text}

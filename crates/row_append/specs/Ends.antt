@@ -1,7 +1,7 @@
 -- Chains that grow as records are appended, and the pointer where each one ends.
 use Rattle.std.specs.Prelude.{◌≡◌, ℕ, ◌+◌, ◌*◌, ◌<◌, Bool, true, false, ◌||◌, List, [], ◌∷◌, get_or, Option, Some, None, slice_index, IsFalse}
 use Rattle.std.specs.List.{slice_get, list_any}
-use Rattle.op_model.specs.declared.Dataset.{Dataset}
+use Rattle.op_model.specs.declared.base.Dataset.{Dataset}
 use Rattle.record_rows.specs.Rows.{Row, HeaderRow, SupervoxelRow, ChunkRow, NodeRow, LinkRow, EdgeRow, ChangeRow, ItemRow, EntryRow}
 use Rattle.record_rows.specs.Chains.{edge_at, version_of, child_of, node_in, is_node, has_id}
 use Rattle.record_rows.specs.Words.{words_of}

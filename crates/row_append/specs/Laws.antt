@@ -1,7 +1,7 @@
 -- Where chains end with one more record behind the others.
 use Rattle.std.specs.Prelude.{◌≡◌, ℕ, Bool, ◌≢◌, ◌+◌, ◌*◌, ◌<◌, ◌≤◌, ◌⊎◌, List, [], ◌∷◌, ◌++◌, length, drop, Some, IsTrue, IsFalse}
 use Rattle.std.specs.List.{slice_get, list_any}
-use Rattle.op_model.specs.declared.Edge.{Edge}
+use Rattle.op_model.specs.declared.base.Edge.{Edge}
 use Rattle.record_rows.specs.Rows.{Row, SupervoxelRow, ChunkRow, NodeRow, LinkRow, EdgeRow, Node, Link}
 use Rattle.record_rows.specs.Words.{place_from, words_of}
 use Rattle.row_append.specs.Ends.{Chain, EdgesOf, VersionsOf, ChildrenOf, NodesIn, owns, belongs, has_part, HasNone, IsFree, EndsAt, IsHeaded}

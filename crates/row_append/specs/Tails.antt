@@ -1,7 +1,7 @@
 -- What the calls that append a record are given.
 use Rattle.std.specs.Prelude.{◌≡◌, ℕ, ◌+◌, ◌*◌}
-use Rattle.op_model.specs.declared.Entry.{Entry}
-use Rattle.op_model.specs.declared.Asked.TheVariants as asked
+use Rattle.op_model.specs.declared.entry.Entry.{Entry}
+use Rattle.op_model.specs.declared.entry.Asked.TheVariants as asked
 use Rattle.row_append.specs.declared.tail.Tail.{Tail}
 
 -- the number of the word that the pointer is

@@ -1,8 +1,8 @@
 -- What readers of words need: of a built base's, and of the sample's.
 use Rattle.std.proofs.Common.{◌≡◌, ℕ, ◌<◌, List, [], ◌∷◌, length, sym, subst, arith}
-use Rattle.op_model.specs.declared.Dataset.{Dataset}
-use Rattle.op_model.specs.declared.Base.{Base}
-use Rattle.op_model.specs.declared.Entry.{Entry}
+use Rattle.op_model.specs.declared.base.Dataset.{Dataset}
+use Rattle.op_model.specs.declared.base.Base.{Base}
+use Rattle.op_model.specs.declared.entry.Entry.{Entry}
 use Rattle.op_model.specs.Samples.{base, data_a, regained}
 use Rattle.record_rows.specs.Readings.{Image, ParentImage}
 use Rattle.record_rows.proofs.ImageFacts.{parent_image}

@@ -1,7 +1,7 @@
 -- The words of the sample are the image of its log.
 use Rattle.std.proofs.Common.{◌≡◌, ℕ, ◌<◌, ◌≤◌, ltb, leb, true, refl, arith}
 use Rattle.std.proofs.lemmas.Bool.{leb-true, ltb-true}
-use Rattle.op_model.specs.declared.Edit.TheVariants.{Undo, Redo}
+use Rattle.op_model.specs.declared.request.Edit.TheVariants.{Undo, Redo}
 use Rattle.op_model.specs.Valid.{IsDataset, IsBase}
 use Rattle.op_model.specs.Samples.{p, q, r, s, join, base, data_a, regained}
 use Rattle.op_model.proofs.Opened.{definitions}

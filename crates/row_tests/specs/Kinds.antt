@@ -1,6 +1,6 @@
 -- What the tests know of the words that they read.
 use Rattle.std.specs.Prelude.{◌≡◌, ℕ, ◌+◌, ◌*◌, ◌%◌, ◌^◌, ◌≤◌, List, length, slice_index}
-use Rattle.op_model.specs.declared.Entry.{Entry}
+use Rattle.op_model.specs.declared.entry.Entry.{Entry}
 use Rattle.op_model.specs.Samples.{base, data_a}
 use Rattle.record_rows.specs.Readings.{Image}
 

@@ -1,9 +1,9 @@
 //! Words without their records of edges.
 
 ghost use Rattle.std.specs.Prelude.{◌≡◌, ◌+◌, ◌*◌, ◌≤◌, List, length};
-ghost use Rattle.op_model.specs.declared.Dataset.{Dataset};
-ghost use Rattle.op_model.specs.declared.Base.{Base};
-ghost use Rattle.op_model.specs.declared.Entry.{Entry};
+ghost use Rattle.op_model.specs.declared.base.Dataset.{Dataset};
+ghost use Rattle.op_model.specs.declared.base.Base.{Base};
+ghost use Rattle.op_model.specs.declared.entry.Entry.{Entry};
 ghost use Rattle.record_rows.specs.Rows.{Row};
 ghost use Rattle.record_rows.specs.Readings.{Holds, ParentImage};
 ghost use Rattle.row_tests.specs.Logs.{HasUntold, IsUntold, TellsLog};

@@ -7,11 +7,11 @@ use Rattle.node_ids.specs.Digits.{number_of}
 use Rattle.node_ids.specs.Ids.{parts_of}
 use Rattle.chunk_geometry.specs.Grids.{in_grid}
 use Rattle.op_model.specs.Lists.{has}
-use Rattle.op_model.specs.declared.Dataset.{Dataset}
-use Rattle.op_model.specs.declared.Pair.{Pair}
-use Rattle.op_model.specs.declared.Weight.{Weight}
-use Rattle.op_model.specs.declared.Weight.TheVariants.{Affinity, Glue}
-use Rattle.op_model.specs.declared.Edge.{Edge}
+use Rattle.op_model.specs.declared.base.Dataset.{Dataset}
+use Rattle.op_model.specs.declared.base.Pair.{Pair}
+use Rattle.op_model.specs.declared.base.Weight.{Weight}
+use Rattle.op_model.specs.declared.base.Weight.TheVariants.{Affinity, Glue}
+use Rattle.op_model.specs.declared.base.Edge.{Edge}
 use Rattle.op_model.specs.Edges.{pair_of, same_pair}
 use Rattle.op_model.specs.Valid.{IsSupervoxel, IsEdge, IsWeight}
 use Rattle.table_ingest.specs.Records.{field}

@@ -3,7 +3,7 @@ use Rattle.std.proofs.Common.{◌≡◌, ℕ, Bool, true, false, not, cond, ◌|
 use Rattle.std.specs.List.{list_any}
 use Rattle.indexmap.specs.IndexSet.{insert_key}
 use Rattle.op_model.specs.Lists.{has}
-use Rattle.op_model.specs.declared.Dataset.{Dataset}
+use Rattle.op_model.specs.declared.base.Dataset.{Dataset}
 use Rattle.table_ingest.specs.Faults.{◌>>=◌, only_if}
 use Rattle.table_ingest.specs.Supervoxels.{placed_id, supervoxel_of}
 use Rattle.table_ingest.specs.declared.errors.Cause.TheVariants as cause

@@ -1,8 +1,8 @@
 -- Pairs in a set of their ends, and in a list of edges.
 use Rattle.std.proofs.Common.{◌≡◌, ℕ, Bool, true, false, not, cond, ◌||◌, List, [], ◌∷◌, ◌++◌, map, Option, Some, None, Ok, Err, refl, sym, ap, ◌∙◌}
-use Rattle.op_model.specs.declared.Pair.{Pair}
-use Rattle.op_model.specs.declared.Weight.{Weight}
-use Rattle.op_model.specs.declared.Edge.{Edge}
+use Rattle.op_model.specs.declared.base.Pair.{Pair}
+use Rattle.op_model.specs.declared.base.Weight.{Weight}
+use Rattle.op_model.specs.declared.base.Edge.{Edge}
 use Rattle.op_model.specs.Edges.{same_pair}
 use Rattle.table_ingest.specs.Faults.{◌>>=◌, or_cause, only_if}
 use Rattle.table_ingest.specs.Records.{field}

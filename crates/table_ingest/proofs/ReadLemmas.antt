@@ -1,9 +1,9 @@
 -- The answer to two texts, from what their tables gave.
 use Rattle.std.proofs.Common.{◌≡◌, ℕ, List, [], Result, Ok, Err, sym, ◌∙◌, ap, subst}
 use Rattle.std.specs.List.{IsDistinct}
-use Rattle.op_model.specs.declared.Dataset.{Dataset}
-use Rattle.op_model.specs.declared.Base.{Base}
-use Rattle.op_model.specs.declared.Edge.{Edge}
+use Rattle.op_model.specs.declared.base.Dataset.{Dataset}
+use Rattle.op_model.specs.declared.base.Base.{Base}
+use Rattle.op_model.specs.declared.base.Edge.{Edge}
 use Rattle.op_model.specs.Edges.{put_edges}
 use Rattle.op_model.specs.Operations.{ascending}
 use Rattle.table_ingest.specs.Records.{Are}

@@ -1,8 +1,8 @@
 -- The base that a supervoxel table and an edge table spell.
 use Rattle.std.specs.Prelude.{◌≡◌, ⊤, ℕ, IsTrue, List, [], ◌∷◌, Result, Ok, Err}
-use Rattle.op_model.specs.declared.Dataset.{Dataset}
-use Rattle.op_model.specs.declared.Base.{Base}
-use Rattle.op_model.specs.declared.Edge.{Edge}
+use Rattle.op_model.specs.declared.base.Dataset.{Dataset}
+use Rattle.op_model.specs.declared.base.Base.{Base}
+use Rattle.op_model.specs.declared.base.Edge.{Edge}
 use Rattle.op_model.specs.Edges.{pair_before, put_edges}
 use Rattle.op_model.specs.Operations.{ascending}
 use Rattle.table_ingest.specs.Records.{Are}

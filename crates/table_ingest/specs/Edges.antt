@@ -3,10 +3,10 @@ use Rattle.std.specs.Prelude.{ℕ, ◌^◌, Bool, true, false, not, ◌&&◌, �
 use Rattle.std.specs.List.{list_any}
 use Rattle.node_ids.specs.Digits.{number_of}
 use Rattle.op_model.specs.Lists.{has}
-use Rattle.op_model.specs.declared.Pair.{Pair}
-use Rattle.op_model.specs.declared.Weight.{Weight}
-use Rattle.op_model.specs.declared.Weight.TheVariants.{Affinity, Glue}
-use Rattle.op_model.specs.declared.Edge.{Edge}
+use Rattle.op_model.specs.declared.base.Pair.{Pair}
+use Rattle.op_model.specs.declared.base.Weight.{Weight}
+use Rattle.op_model.specs.declared.base.Weight.TheVariants.{Affinity, Glue}
+use Rattle.op_model.specs.declared.base.Edge.{Edge}
 use Rattle.op_model.specs.Edges.{pair_of, same_pair}
 use Rattle.table_ingest.specs.Records.{field}
 use Rattle.table_ingest.specs.Faults.{Fault, ◌>>=◌, or_cause, only_if}

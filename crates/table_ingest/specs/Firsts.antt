@@ -1,6 +1,6 @@
 -- The first record of a table that means nothing.
 use Rattle.std.specs.Prelude.{◌≡◌, ◌⊎◌, ℕ, ◌+◌, Bool, true, List, [], ◌∷◌, ◌++◌, length, Result, Ok, Err}
-use Rattle.op_model.specs.declared.Dataset.{Dataset}
+use Rattle.op_model.specs.declared.base.Dataset.{Dataset}
 use Rattle.table_ingest.specs.Records.{HasNoHeader}
 use Rattle.table_ingest.specs.Faults.{Fault}
 use Rattle.table_ingest.specs.Tables.{meanings}

@@ -1,7 +1,7 @@
 -- What holds of all texts.
 use Rattle.std.specs.Prelude.{◌≡◌, ◌≤◌, ◌⊎◌, ℕ, List, length, Err}
-use Rattle.op_model.specs.declared.Dataset.{Dataset}
-use Rattle.op_model.specs.declared.Base.{Base}
+use Rattle.op_model.specs.declared.base.Dataset.{Dataset}
+use Rattle.op_model.specs.declared.base.Base.{Base}
 use Rattle.op_model.specs.Valid.{IsBase}
 use Rattle.table_ingest.specs.Records.{Are}
 use Rattle.table_ingest.specs.Bases.{base_of, Spells, Faulty, AscendByPair}

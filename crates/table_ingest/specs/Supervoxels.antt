@@ -4,7 +4,7 @@ use Rattle.node_ids.specs.Digits.{number_of}
 use Rattle.node_ids.specs.Ids.{parts_of}
 use Rattle.chunk_geometry.specs.Grids.{in_grid}
 use Rattle.op_model.specs.Lists.{has}
-use Rattle.op_model.specs.declared.Dataset.{Dataset}
+use Rattle.op_model.specs.declared.base.Dataset.{Dataset}
 use Rattle.table_ingest.specs.Records.{field}
 use Rattle.table_ingest.specs.Faults.{Fault, ◌>>=◌, or_cause, only_if}
 use Rattle.table_ingest.specs.Tables.{table_of}

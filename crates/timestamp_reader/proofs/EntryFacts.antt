@@ -4,14 +4,14 @@ use Rattle.std.specs.List.{AllByRecursion, find}
 use Rattle.std.proofs.lemmas.Bool.{eqb-true}
 use Rattle.std.proofs.lemmas.Option.{same_Some}
 use Rattle.std.proofs.Math.Seq.{drop-append_seam}
-use Rattle.op_model.specs.declared.Dataset.{Dataset}
-use Rattle.op_model.specs.declared.Base.{Base}
-use Rattle.op_model.specs.declared.Changed.{Changed}
-use Rattle.op_model.specs.declared.Asked.{Asked}
-use Rattle.op_model.specs.declared.Asked.TheVariants as asked
+use Rattle.op_model.specs.declared.base.Dataset.{Dataset}
+use Rattle.op_model.specs.declared.base.Base.{Base}
+use Rattle.op_model.specs.declared.entry.Changed.{Changed}
+use Rattle.op_model.specs.declared.entry.Asked.{Asked}
+use Rattle.op_model.specs.declared.entry.Asked.TheVariants as asked
 use Rattle.log_rows.specs.declared.records.Head.{Head}
 use Rattle.log_rows.specs.Heads.{head_of}
-use Rattle.op_model.specs.declared.Entry.{Entry}
+use Rattle.op_model.specs.declared.entry.Entry.{Entry}
 use Rattle.graph_model.specs.Lists.{has}
 use Rattle.op_model.specs.Labels.{root}
 use Rattle.op_model.specs.Operations.{ascending, ends, entry_at, first_entry, next_entry, entry_of, change}

@@ -7,9 +7,9 @@ use Rattle.std.proofs.lemmas.Option.{same_Some}
 use Rattle.node_ids.specs.declared.Parts.{Parts}
 use Rattle.node_ids.specs.Ids.{LayoutForm, width, greatest, id_of}
 use Rattle.node_ids.specs.Packing.{packed}
-use Rattle.op_model.specs.declared.Dataset.{Dataset}
-use Rattle.op_model.specs.declared.Base.{Base}
-use Rattle.op_model.specs.declared.Entry.{Entry}
+use Rattle.op_model.specs.declared.base.Dataset.{Dataset}
+use Rattle.op_model.specs.declared.base.Base.{Base}
+use Rattle.op_model.specs.declared.entry.Entry.{Entry}
 use Rattle.graph_model.specs.Lists.{has}
 use Rattle.op_model.specs.Chunks.{top, layers, chunk}
 use Rattle.record_rows.specs.Rows.{Row, HeaderRow, ChunkRow, NodeRow, Node}

@@ -9,9 +9,9 @@ use Rattle.std.proofs.lemmas.List.Sorted.{IsPermutation-refl, IsPermutation-sym,
 use Rattle.std.proofs.lemmas.List.Sums.{sum_by_push, sum_by-le}
 use Rattle.std.proofs.Math.Nat.{pow-succ', one-le-pow, mul-lt-mul_of_pos_right}
 use Rattle.std.proofs.lemmas.Option.{slice_get_within}
-use Rattle.op_model.specs.declared.Dataset.{Dataset}
-use Rattle.op_model.specs.declared.Base.{Base}
-use Rattle.op_model.specs.declared.Entry.{Entry}
+use Rattle.op_model.specs.declared.base.Dataset.{Dataset}
+use Rattle.op_model.specs.declared.base.Base.{Base}
+use Rattle.op_model.specs.declared.entry.Entry.{Entry}
 use Rattle.record_rows.specs.Rows.{Row, SupervoxelRow, NodeRow, LinkRow, Node, Link}
 use Rattle.record_rows.specs.Chains.{child_of, has_id}
 use Rattle.record_rows.specs.Images.{told}

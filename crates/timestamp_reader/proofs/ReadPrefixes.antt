@@ -3,11 +3,11 @@ use Rattle.std.proofs.Common.{◌≡◌, ℕ, ◌+◌, ◌-◌, ◌<◌, ◌≤�
 use Rattle.std.specs.Option.{option_map_or}
 use Rattle.std.proofs.lemmas.Bool.{leb-true, leb-false, le-leb, ltb-false}
 use Rattle.std.proofs.Math.Seq.{drop-append_seam}
-use Rattle.op_model.specs.declared.Dataset.{Dataset}
-use Rattle.op_model.specs.declared.Base.{Base}
-use Rattle.op_model.specs.declared.Entry.{Entry}
-use Rattle.op_model.specs.declared.Refusal.{Refusal}
-use Rattle.op_model.specs.declared.Refusal.TheVariants as refusal
+use Rattle.op_model.specs.declared.base.Dataset.{Dataset}
+use Rattle.op_model.specs.declared.base.Base.{Base}
+use Rattle.op_model.specs.declared.entry.Entry.{Entry}
+use Rattle.op_model.specs.declared.reply.Refusal.{Refusal}
+use Rattle.op_model.specs.declared.reply.Refusal.TheVariants as refusal
 use Rattle.op_model.specs.Refusals.{first_of, refuse_if, refuse_time, prefix_at, prefix_for, first_at, last_at}
 use Rattle.op_model.specs.Legal.{Legal}
 use Rattle.op_model.specs.Transcript.{log_at}

@@ -3,14 +3,14 @@ use Rattle.std.proofs.Common.{◌≡◌, ℕ, true, false, List, [], ◌∷◌, 
 use Rattle.std.specs.Prelude.{MatchOption, MatchResult}
 use Rattle.std.specs.List.{list_any, slice_get}
 use Rattle.std.proofs.lemmas.Bool.{cases_Bool, eqb-true, false≢true}
-use Rattle.op_model.specs.declared.Dataset.{Dataset}
-use Rattle.op_model.specs.declared.Base.{Base}
-use Rattle.op_model.specs.declared.Entry.{Entry}
-use Rattle.op_model.specs.declared.Refusal.{Refusal}
-use Rattle.op_model.specs.declared.Refusal.TheVariants.{NoSuchSupervoxel, NotARoot, NoSuchRoot}
-use Rattle.op_model.specs.declared.Read.{Read}
-use Rattle.op_model.specs.declared.Read.TheVariants as read
-use Rattle.op_model.specs.declared.Reply.TheVariants as reply
+use Rattle.op_model.specs.declared.base.Dataset.{Dataset}
+use Rattle.op_model.specs.declared.base.Base.{Base}
+use Rattle.op_model.specs.declared.entry.Entry.{Entry}
+use Rattle.op_model.specs.declared.reply.Refusal.{Refusal}
+use Rattle.op_model.specs.declared.reply.Refusal.TheVariants.{NoSuchSupervoxel, NotARoot, NoSuchRoot}
+use Rattle.op_model.specs.declared.request.Read.{Read}
+use Rattle.op_model.specs.declared.request.Read.TheVariants as read
+use Rattle.op_model.specs.declared.reply.Reply.TheVariants as reply
 use Rattle.graph_model.specs.Lists.{has}
 use Rattle.op_model.specs.Answers.{answer}
 use Rattle.op_model.specs.Labels.{path, root as root_of}

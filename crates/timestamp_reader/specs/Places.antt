@@ -1,10 +1,10 @@
 -- Which prefix and which supervoxels are asked of, and where a walk from a supervoxel up to its root stands.
 use Rattle.std.specs.Prelude.{◌≡◌, ℕ, ◌≤◌, List, [], length, drop, Option, Some, None, IsTrue}
 use Rattle.std.specs.List.{AllByRecursion, filter_map}
-use Rattle.op_model.specs.declared.Dataset.{Dataset}
-use Rattle.op_model.specs.declared.Base.{Base}
-use Rattle.op_model.specs.declared.Changed.{Changed}
-use Rattle.op_model.specs.declared.Entry.{Entry}
+use Rattle.op_model.specs.declared.base.Dataset.{Dataset}
+use Rattle.op_model.specs.declared.base.Base.{Base}
+use Rattle.op_model.specs.declared.entry.Changed.{Changed}
+use Rattle.op_model.specs.declared.entry.Entry.{Entry}
 use Rattle.graph_model.specs.Lists.{has}
 use Rattle.op_model.specs.Chunks.{layers}
 use Rattle.op_model.specs.Operations.{entry_at}

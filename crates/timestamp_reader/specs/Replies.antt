@@ -1,14 +1,14 @@
 -- What a read is replied.
 use Rattle.std.specs.Prelude.{◌≡◌, ℕ, ◌≤◌, ◌⊎◌, List, length, Option, None, Result, Ok, Err}
 use Rattle.std.specs.Option.{option_map_or}
-use Rattle.op_model.specs.declared.Dataset.{Dataset}
-use Rattle.op_model.specs.declared.Base.{Base}
-use Rattle.op_model.specs.declared.Entry.{Entry}
-use Rattle.op_model.specs.declared.Read.{Read}
-use Rattle.op_model.specs.declared.Read.TheVariants as read
-use Rattle.op_model.specs.declared.Refusal.{Refusal}
-use Rattle.op_model.specs.declared.Reply.{Reply}
-use Rattle.op_model.specs.declared.Reply.TheVariants as reply
+use Rattle.op_model.specs.declared.base.Dataset.{Dataset}
+use Rattle.op_model.specs.declared.base.Base.{Base}
+use Rattle.op_model.specs.declared.entry.Entry.{Entry}
+use Rattle.op_model.specs.declared.request.Read.{Read}
+use Rattle.op_model.specs.declared.request.Read.TheVariants as read
+use Rattle.op_model.specs.declared.reply.Refusal.{Refusal}
+use Rattle.op_model.specs.declared.reply.Reply.{Reply}
+use Rattle.op_model.specs.declared.reply.Reply.TheVariants as reply
 use Rattle.op_model.specs.Answers.{answer, leaves}
 use Rattle.op_model.specs.Refusals.{first_of, prefix_for, refuse_read, refuse_time, refuse_root}
 use Rattle.op_model.specs.Transcript.{log_at, read_reply}

@@ -2,9 +2,9 @@
 use Rattle.std.specs.Prelude.{ℕ, ◌/◌, ◌^◌, List, [], ◌∷◌, ◌++◌, length}
 use Rattle.std.specs.List.{AllByRecursion, flat_map, slice_get, sum_by}
 use Rattle.std.specs.Option.{option_map_or}
-use Rattle.op_model.specs.declared.Dataset.{Dataset}
-use Rattle.op_model.specs.declared.Base.{Base}
-use Rattle.op_model.specs.declared.Entry.{Entry}
+use Rattle.op_model.specs.declared.base.Dataset.{Dataset}
+use Rattle.op_model.specs.declared.base.Base.{Base}
+use Rattle.op_model.specs.declared.entry.Entry.{Entry}
 use Rattle.record_rows.specs.Rows.{Row, SupervoxelRow, NodeRow, Node}
 use Rattle.record_rows.specs.Chains.{has_id}
 use Rattle.record_rows.specs.Words.{place_from}

@@ -2,10 +2,10 @@
 
 ghost use Rattle.std.specs.Prelude.{◌≡◌, ◌<◌, ◌≤◌, ◌∷◌, [], ℕ, List, Some, length, MatchOption, MatchResult, ◌&&◌, ◌==◌, nat_lt, true, false};
 ghost use Rattle.node_ids.specs.Ids.{parts_of};
-ghost use Rattle.op_model.specs.declared.Dataset.{Dataset};
-ghost use Rattle.op_model.specs.declared.Base.{Base};
-ghost use Rattle.op_model.specs.declared.Entry.{Entry};
-ghost use Rattle.op_model.specs.declared.Read.TheVariants as read;
+ghost use Rattle.op_model.specs.declared.base.Dataset.{Dataset};
+ghost use Rattle.op_model.specs.declared.base.Base.{Base};
+ghost use Rattle.op_model.specs.declared.entry.Entry.{Entry};
+ghost use Rattle.op_model.specs.declared.request.Read.TheVariants as read;
 ghost use Rattle.graph_model.specs.Lists.{has};
 ghost use Rattle.std.specs.List.{list_any};
 ghost use Rattle.op_model.specs.Refusals.{first_of, is_root_id, prefix_for, refuse_read, refuse_root};

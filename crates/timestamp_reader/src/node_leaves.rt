@@ -1,9 +1,9 @@
 //! The supervoxels of a node, found by opening it and the nodes below it.
 
 ghost use Rattle.std.specs.Prelude.{◌≡◌, ◌<◌, ◌≤◌, ◌+◌, ◌++◌, ◌∷◌, [], ℕ, List, length, IfOk, OnOk, IsPermutation, true, false};
-ghost use Rattle.op_model.specs.declared.Dataset.{Dataset};
-ghost use Rattle.op_model.specs.declared.Base.{Base};
-ghost use Rattle.op_model.specs.declared.Entry.{Entry};
+ghost use Rattle.op_model.specs.declared.base.Dataset.{Dataset};
+ghost use Rattle.op_model.specs.declared.base.Base.{Base};
+ghost use Rattle.op_model.specs.declared.entry.Entry.{Entry};
 ghost use Rattle.record_rows.specs.Rows.{Link, LinkRow, Node, Row, SupervoxelRow};
 ghost use Rattle.record_rows.specs.Chains.{child_of, has_id};
 ghost use Rattle.record_rows.specs.LogRows.{rows_of};

@@ -1,9 +1,9 @@
 //! The nodes of a supervoxel at a prefix.
 
 ghost use Rattle.std.specs.Prelude.{◌≡◌, ◌≤◌, ◌+◌, ℕ, List, length};
-ghost use Rattle.op_model.specs.declared.Dataset.{Dataset};
-ghost use Rattle.op_model.specs.declared.Base.{Base};
-ghost use Rattle.op_model.specs.declared.Entry.{Entry};
+ghost use Rattle.op_model.specs.declared.base.Dataset.{Dataset};
+ghost use Rattle.op_model.specs.declared.base.Base.{Base};
+ghost use Rattle.op_model.specs.declared.entry.Entry.{Entry};
 ghost use Rattle.op_model.specs.Chunks.{top};
 ghost use Rattle.op_model.specs.Labels.{node, path, root};
 ghost use Rattle.op_model.specs.Transcript.{log_at};

@@ -2,9 +2,9 @@
 
 ghost use Rattle.std.specs.Prelude.{◌≡◌, [], ◌∷◌, List, map, OnOk, IfOk, IsTrue};
 ghost use Rattle.std.specs.List.{AllByRecursion};
-ghost use Rattle.op_model.specs.declared.Dataset.{Dataset};
-ghost use Rattle.op_model.specs.declared.Base.{Base};
-ghost use Rattle.op_model.specs.declared.Entry.{Entry};
+ghost use Rattle.op_model.specs.declared.base.Dataset.{Dataset};
+ghost use Rattle.op_model.specs.declared.base.Base.{Base};
+ghost use Rattle.op_model.specs.declared.entry.Entry.{Entry};
 ghost use Rattle.graph_model.specs.Lists.{has};
 ghost use Rattle.op_model.specs.Labels.{root};
 ghost use Rattle.op_model.specs.Operations.{ascending, ends, put_id};

@@ -1,5 +1,5 @@
 use Rattle.std.proofs.Common.{◌≡◌, ℕ, ◌+◌, ◌-◌, ◌*◌, List, ◌++◌, length, map, take}
-use Rattle.op_model.specs.declared.Dataset.{Dataset}
+use Rattle.op_model.specs.declared.base.Dataset.{Dataset}
 use Rattle.record_rows.specs.Rows.{EdgeRow}
 use Rattle.record_rows.specs.Words.{words_of}
 use Rattle.base_rows.specs.BaseRows.{owner_rows}

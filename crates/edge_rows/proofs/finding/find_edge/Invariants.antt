@@ -1,7 +1,7 @@
 use Rattle.std.proofs.Common.{◌≡◌, List, length}
-use Rattle.op_model.specs.declared.Dataset.{Dataset}
-use Rattle.op_model.specs.declared.Base.{Base}
-use Rattle.op_model.specs.declared.Entry.{Entry}
+use Rattle.op_model.specs.declared.base.Dataset.{Dataset}
+use Rattle.op_model.specs.declared.base.Base.{Base}
+use Rattle.op_model.specs.declared.entry.Entry.{Entry}
 use Rattle.record_rows.specs.Chains.{edge_at, is_edge}
 use Rattle.record_rows.specs.LogRows.{rows_of}
 use Rattle.record_rows.specs.Readings.{Image}

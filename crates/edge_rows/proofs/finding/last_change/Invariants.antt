@@ -1,8 +1,8 @@
 use Rattle.std.proofs.Common.{◌≡◌, ℕ, List, length}
-use Rattle.op_model.specs.declared.Dataset.{Dataset}
-use Rattle.op_model.specs.declared.Base.{Base}
-use Rattle.op_model.specs.declared.Edge.{Edge}
-use Rattle.op_model.specs.declared.Entry.{Entry}
+use Rattle.op_model.specs.declared.base.Dataset.{Dataset}
+use Rattle.op_model.specs.declared.base.Base.{Base}
+use Rattle.op_model.specs.declared.base.Edge.{Edge}
+use Rattle.op_model.specs.declared.entry.Entry.{Entry}
 use Rattle.record_rows.specs.Chains.{change_of}
 use Rattle.record_rows.specs.LogRows.{rows_of}
 use Rattle.record_rows.specs.Readings.{Image, HoldsEdge}

@@ -1,6 +1,6 @@
 use Rattle.std.proofs.Common.{ℕ, ◌+◌, Bool, true, false, leb, Some, None, Ok, Err, refl, sym, ◌∙◌, ap, subst, arith}
 use Rattle.std.proofs.lemmas.Bool.{le-leb, lt-leb}
-use Rattle.op_model.specs.declared.Entry.{Entry}
+use Rattle.op_model.specs.declared.entry.Entry.{Entry}
 use Rattle.record_rows.specs.Readings.{ParentImage}
 use Rattle.log_rows.specs.Entries.{AtEntry}
 use Rattle.log_rows.specs.declared.times.TimeRefusal.TheVariants.{TooEarly}

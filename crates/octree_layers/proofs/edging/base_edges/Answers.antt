@@ -1,6 +1,6 @@
 use Rattle.std.proofs.Common.{List, [], ◌∙◌, ap}
 use Rattle.std.proofs.lemmas.List.Sorted.{All-permutation}
-use Rattle.op_model.specs.declared.Edge.{Edge}
+use Rattle.op_model.specs.declared.base.Edge.{Edge}
 use Rattle.op_model.specs.Edges.{put_edges, edges_after}
 use Rattle.op_model.specs.Labels.{edges}
 use Rattle.base_rows.specs.Lists.{IsPlaced}

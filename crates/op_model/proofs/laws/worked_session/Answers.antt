@@ -1,6 +1,6 @@
 use Rattle.std.proofs.Common.{◌≡◌, ℕ, ◌+◌, ◌<◌, ◌≤◌, Bool, true, false, cond, ltb, leb, nat_eq, [], ◌∷◌, refl, arith, ◌||◌}
 use Rattle.std.proofs.lemmas.Bool.{leb-true, ltb-true}
-use Rattle.op_model.specs.declared.Edit.TheVariants.{Split}
+use Rattle.op_model.specs.declared.request.Edit.TheVariants.{Split}
 use Rattle.op_model.specs.Cuts.{IsShown, part}
 use Rattle.op_model.proofs.Opened.{definitions}
 use Rattle.op_model.specs.Samples.{p, q, r, s, join, base, data_a, first_told, shown}

@@ -1,5 +1,5 @@
 use Rattle.std.proofs.Common.{◌≡◌, ◌∷◌, [], Ok, subst, sym}
-use Rattle.op_model.specs.declared.Request.{Request}
+use Rattle.op_model.specs.declared.request.Request.{Request}
 use Rattle.record_rows.proofs.ImageFacts.{parent_image}
 use Rattle.pcg_serve.specs.Sessions.{Answers, line_of}
 use Rattle.pcg_serve.proofs.Answering.{read_so}

@@ -1,5 +1,5 @@
 use Rattle.std.proofs.Common.{ℕ, ◌≤◌, refl, arith}
-use Rattle.op_model.specs.declared.Dataset.{Dataset}
+use Rattle.op_model.specs.declared.base.Dataset.{Dataset}
 use Rattle.op_model.specs.Valid.{IsDataset}
 use Rattle.record_rows.specs.Words.{layout_word, grid_word}
 use Rattle.row_tests.proofs.word_tests.headers_of_both_versions.Goals as goal

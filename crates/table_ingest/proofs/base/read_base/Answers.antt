@@ -1,6 +1,6 @@
 use Rattle.std.proofs.Common.{ℕ, rules, Vec, Global, BuildHasherDefault, FoldHasher}
 use Rattle.indexmap.specs.declared.set.IndexSet.{IndexSet}
-use Rattle.op_model.specs.declared.Edge.{Edge}
+use Rattle.op_model.specs.declared.base.Edge.{Edge}
 use Rattle.table_ingest.proofs.BaseLemmas.{spelled_valid}
 use Rattle.table_ingest.proofs.Counts.{spelled_few}
 use Rattle.table_ingest.proofs.ReadLemmas.{ids_stop, edges_stop, pairs_once, spelled}

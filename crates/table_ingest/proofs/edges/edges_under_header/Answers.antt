@@ -1,5 +1,5 @@
 use Rattle.std.proofs.Common.{rules, Vec, Global}
-use Rattle.op_model.specs.declared.Edge.{Edge}
+use Rattle.op_model.specs.declared.base.Edge.{Edge}
 use Rattle.table_ingest.specs.Edges.{is_edge_header, edge_of, edges_of}
 use Rattle.table_ingest.specs.declared.errors.Table.TheVariants as tables
 use Rattle.table_ingest.specs.declared.errors.Cause.TheVariants as cause

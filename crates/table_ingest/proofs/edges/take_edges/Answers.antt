@@ -1,5 +1,5 @@
 use Rattle.std.proofs.Common.{Vec, Global}
-use Rattle.op_model.specs.declared.Edge.{Edge}
+use Rattle.op_model.specs.declared.base.Edge.{Edge}
 use Rattle.table_ingest.proofs.Meanings.{still_bad}
 use Rattle.table_ingest.proofs.edges.take_edges.Goals as goal
 

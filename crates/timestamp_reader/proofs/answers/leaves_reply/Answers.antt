@@ -1,7 +1,7 @@
 use Rattle.std.proofs.Common.{◌≡◌, None, Some, subst, inl, inr, refl}
 use Rattle.std.specs.Prelude.{MatchResult}
 use Rattle.std.specs.Result.{IfOk}
-use Rattle.op_model.specs.declared.Read.TheVariants as read
+use Rattle.op_model.specs.declared.request.Read.TheVariants as read
 use Rattle.op_model.specs.Refusals.{prefix_for, refuse_read}
 use Rattle.parent_rows.proofs.ChainWalks.{image_kept}
 use Rattle.timestamp_reader.specs.Replies.{HoldsRoot}

@@ -1,6 +1,6 @@
 use Rattle.std.proofs.Common.{◌≡◌, Some, subst}
 use Rattle.std.specs.Prelude.{MatchResult}
-use Rattle.op_model.specs.declared.Read.TheVariants as read
+use Rattle.op_model.specs.declared.request.Read.TheVariants as read
 use Rattle.op_model.specs.Refusals.{refuse_read}
 use Rattle.parent_rows.proofs.ChainWalks.{image_kept}
 use Rattle.timestamp_reader.specs.Replies.{IsAsked}

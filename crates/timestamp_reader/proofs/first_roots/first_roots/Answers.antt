@@ -1,6 +1,6 @@
 use Rattle.std.proofs.Common.{◌≡◌, ℕ, ◌++◌, [], ◌∷◌, List, sym, ◌∙◌, subst}
 use Rattle.std.specs.Result.{IfOk}
-use Rattle.op_model.specs.declared.Entry.{Entry}
+use Rattle.op_model.specs.declared.entry.Entry.{Entry}
 use Rattle.op_model.specs.Valid.{IsSupervoxel}
 use Rattle.op_model.proofs.RootLemmas.{top_chunk}
 use Rattle.op_model.proofs.LegalLemmas.{all_has}

@@ -1,5 +1,5 @@
 use Rattle.std.proofs.Common.{◌≡◌, ◌-◌, ◌<◌, ◌∙◌, ℕ, length, get_or, List, map, refl, sym, ap, subst, arith}
-use Rattle.op_model.specs.declared.Changed.{Changed}
+use Rattle.op_model.specs.declared.entry.Changed.{Changed}
 use Rattle.op_model.specs.Labels.{root}
 use Rattle.op_model.specs.Operations.{ascending, put_id}
 use Rattle.op_model.specs.Transcript.{log_at}
