@@ -10,7 +10,7 @@ use std::alloc::Global;
 
 /// A name in memory, its bytes, and which calls of its sources and sinks fail, by their numbers
 /// counted from 1.
-#[derive(Debug, Drop)]
+#[derive(Drop)]
 pub struct MemFile {
     /// The name.
     pub name: String,
@@ -25,7 +25,7 @@ pub struct MemFile {
 }
 
 /// What is kept beside a name.
-#[derive(Debug, Drop)]
+#[derive(Drop)]
 pub(crate) struct Kept {
     pub(crate) file: MemFile,
     pub(crate) left: Option<MemSource>,

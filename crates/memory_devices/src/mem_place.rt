@@ -90,7 +90,7 @@ fn make_room(alloc: Global, kept: &mut Vec<Kept>, name: &str) -> Result<(), NoMe
 }
 
 /// Files in memory.
-#[derive(Debug, Drop)]
+#[derive(Drop)]
 pub struct MemPlace {
     kept: Vec<Kept>,
     missed: Vec<String>,

@@ -10,7 +10,7 @@ use std::alloc::Global;
 
 /// Bytes in memory that are taken in pieces into a fixed room, by writes and flushes of which chosen
 /// ones fail.
-#[derive(Debug, Drop)]
+#[derive(Drop)]
 pub struct MemSink {
     bytes: Vec<u8>,
     room: usize,
