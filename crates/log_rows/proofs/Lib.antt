@@ -6,6 +6,7 @@ pub mod TimeLemmas
 pub mod TimePlaces
 pub mod EntryParts
 pub mod Seeks
+pub mod NextEntries
 pub mod ChainWalk
 pub mod ChangeWords
 pub mod ItemWords

@@ -6,11 +6,11 @@ ghost use Rattle.op_model.specs.declared.base.Base.{Base};
 ghost use Rattle.op_model.specs.declared.entry.Entry.{Entry};
 ghost use Rattle.op_model.specs.Operations.{undoes, redoes, entry_at, last_about};
 ghost use Rattle.record_rows.specs.Readings.{ParentImage};
-ghost use Rattle.log_rows.specs.Entries.{AtEntry, HoldsEntry};
+ghost use Rattle.log_rows.specs.Entries.{AtEntry, HoldsEntry, IsNextEntry};
 ghost use Rattle.log_rows.specs.Heads.{head_of};
 
 use crate::records::{Head, before, count, head_at, newest, number};
-use crate::seeking::{first_of, seek};
+use crate::seeking::{first_of, next_own, seek};
 use op_model::Kind;
 use pcg_base::Words;
 use row_words::Spot;
@@ -34,6 +34,22 @@ pub fn entry_spot<W: Words>(w: &mut W, n: u32) -> Spot
     let count = count(w);
     let first = first_of(w, n, count);
     seek(w, n, first, count)
+}
+
+/// The place of the next entry's record, where an entry's record stands at this one; `None` exactly
+/// for the newest entry. So a walk over the whole log looks at each record once.
+pub fn next_entry<W: Words>(w: &mut W, entry: Spot) -> Option<Spot>
+    requires entry { AtEntry (W.words w.old) entry }
+    ensures same { w.new ≡ w.old }
+    ensures is { (d : Dataset) (b : Base) (log : List Entry) (e : Entry) → ParentImage d b log (W.words w.old) → HoldsEntry d b log entry e → IsNextEntry d b log e result }
+{
+    let count = count(w);
+    let from = entry.0 + 1;
+    if from >= count {
+        return None;
+    }
+    let own = next_own(w, from, count);
+    Some(Spot(own))
 }
 
 /// What entry `n`, of which there must be one, is.

@@ -29,8 +29,8 @@ mod records;
 mod seeking;
 mod times;
 
-pub use asking::asked;
-pub use changing::{all_changed, changed, first_change, next_change};
-pub use heads::{entry_spot, head, last_about, length};
-pub use records::Head;
+pub use asking::{asked, asked_at};
+pub use changing::{all_changed, all_changed_at, changed, first_change, next_change};
+pub use heads::{entry_spot, head, last_about, length, next_entry};
+pub use records::{Head, head_at, number};
 pub use times::{TimeRefusal, prefix_at};
