@@ -1,5 +1,5 @@
 -- What the records of an image tell of the chains of edges and changes.
-use Rattle.std.proofs.Common.{◌≡◌, ℕ, ◌+◌, ◌*◌, ◌<◌, ◌≤◌, ◌^◌, true, eqb, List, length, get_or, refl, sym, ◌∙◌, ap, arith, inl, inr}
+use Rattle.std.proofs.Common.{◌≡◌, ℕ, ◌+◌, ◌*◌, ◌<◌, ◌≤◌, ◌^◌, true, eqb, List, length, get_or, refl, sym, ◌∙◌, ap, subst, arith, inl, inr}
 use Rattle.std.proofs.lemmas.Bool.{or_cases, eqb-true}
 use Rattle.op_model.specs.declared.base.Dataset.{Dataset}
 use Rattle.op_model.specs.declared.base.Base.{Base}
@@ -12,6 +12,10 @@ use Rattle.record_rows.specs.Words.{fixed_words}
 use Rattle.record_rows.specs.LogRows.{rows_of}
 use Rattle.record_rows.specs.Readings.{Image, Holds, HoldsSupervoxel, HoldsEdge, HoldsChange, place_of, first_place, next_place}
 use Rattle.record_rows.proofs.ImageFacts.{parent_image, within, image_fixed, image_small, image_first, image_next}
+
+-- the image that words are stays as long as they do
+pub image_kept : {A : Type 0} (words : A → List ℕ) (d : Dataset) (b : Base) (log : List Entry) {v w : A} → v ≡ w → Image d b log (words w) → Image d b log (words v)
+image_kept words d b log e i = subst (λ x. Image d b log (words x)) (sym e) i
 
 module _ (d : Dataset) (b : Base) (log : List Entry) (words : List ℕ) (i : Image d b log words) where
   -- the words reach over each record

@@ -7,3 +7,5 @@ pub mod StateWalks
 pub mod Placing
 pub mod Listed
 pub mod Narrow
+pub mod EdgeOrder
+pub mod BaseSearch

@@ -1,5 +1,5 @@
 -- The walk along the changes of an edge that finds its state at a prefix.
-use Rattle.std.proofs.Common.{◌≡◌, ℕ, ◌<◌, ◌≤◌, Bool, true, false, cond, ◌&&◌, ltb, List, Option, Some, None, refl, sym, ◌∙◌, ap, subst, lt-ltb}
+use Rattle.std.proofs.Common.{◌≡◌, ℕ, zero, suc, ◌+◌, ◌<◌, ◌≤◌, Bool, true, false, cond, ◌&&◌, ltb, List, [], ◌∷◌, drop, Option, Some, None, refl, sym, ◌∙◌, ap, subst, lt-ltb, arith}
 use Rattle.std.specs.List.{slice_get, filter_map, cons_option, last_or}
 use Rattle.std.proofs.lemmas.Bool.{le-ltb}
 use Rattle.std.proofs.lemmas.Option.{same_Some}
@@ -17,6 +17,15 @@ no_change : (q : Pair) (prefix : ℕ) (row : Row) → change_of q row ≡ false 
 unfolding change_of state_below
 no_change q prefix (ChangeRow entry c) h = rw h refl
 no_change q prefix row h = refl
+
+get_drop : (p j : ℕ) (rows : List Row) → slice_get (drop p rows) j ≡ slice_get rows (p + j)
+get_drop zero j rows = let e : 0 + j ≡ j = omega arith in ap (slice_get rows) (sym e)
+get_drop (suc p) j [] = refl
+get_drop (suc p) j (x ∷ rows) = let e : suc p + j ≡ suc (p + j) = omega arith in get_drop p j rows ∙ ap (slice_get (x ∷ rows)) (sym e)
+
+none_picked : {X : Type 0} (pick : Row → Option X) (rows : List Row) → ((j : ℕ) (row : Row) → slice_get rows j ≡ Some row → pick row ≡ None) → filter_map pick rows ≡ []
+none_picked pick [] f = refl
+none_picked pick (x ∷ rows) f = let n : pick x ≡ None = f 0 x refl in rw n (none_picked pick rows (λ j row h. f (suc j) row h))
 
 module _ (rows : List Row) (q : Pair) (prefix : ℕ) (answer : Bool) where
   -- where the walk stands, and that the last change left below the prefix, or else the state so far, gives the answer
@@ -50,14 +59,21 @@ module _ (rows : List Row) (q : Pair) (prefix : ℕ) (answer : Bool) where
         ap (λ t. last_or (Some active) (cons_option (cond t (Some c.active) None) rest)) (sym (lt-ltb entry prefix l)) ∙ step active at p entry c e w h r,
       )
 
-  pub told_above : (active : Bool) (at : Option ℕ) (p entry : ℕ) (c : Changed) (next : Option ℕ) → at ≡ Some p → Told active at → slice_get rows p ≡ Some (ChangeRow entry c) → c.pair ≡ q → prefix ≤ entry
-      → next ≡ next_place (change_of q) rows p → Told active next
-  told_above active at p entry c next e w h r l n =
-      let rest : List Bool = filter_map (state_below q prefix) (from_spot rows (next_place (change_of q) rows p)) in
-      subst (Told active) (sym n) (
-        next_leads (change_of q) rows p,
-        ap (λ t. last_or (Some active) (cons_option (cond t (Some c.active) None) rest)) (sym (le-ltb entry prefix l)) ∙ step active at p entry c e w h r,
-      )
+  -- the first change that is too new: no later one counts
+  pub told_stop : (active : Bool) (at : Option ℕ) (p entry : ℕ) → at ≡ Some p → Told active at → prefix ≤ entry → ((j n : ℕ) (x : Changed) → p ≤ j → slice_get rows j ≡ Some (ChangeRow n x) → entry ≤ n) → active ≡ answer
+  unfolding state_below from_spot
+  told_stop active at p entry e w l order =
+      let here : Told active (Some p) = subst (Told active) e w in
+      let none : filter_map (state_below q prefix) (drop p rows) ≡ [] = none_picked (state_below q prefix) (drop p rows) (λ j row h. late row (p + j) (omega arith) (sym (get_drop p j rows) ∙ h)) in
+      same_Some active answer (ap (last_or (Some active)) (sym none) ∙ here.1)
+    where
+      late : (row : Row) (j : ℕ) → p ≤ j → slice_get rows j ≡ Some row → state_below q prefix row ≡ None
+      late (ChangeRow n x) j m h = let k : entry ≤ n = order j n x m h in let f : ltb n prefix ≡ false = le-ltb n prefix (omega arith) in rw f (neither (same_pair x.pair q))
+        where
+          neither : (t : Bool) → cond (t && false) (Some x.active) None ≡ None
+          neither true = refl
+          neither false = refl
+      late row j m h = refl
 
   pub told_end : (active : Bool) (at : Option ℕ) → ((p : ℕ) → at ≡ Some p → ⊥) → Told active at → active ≡ answer
   unfolding from_spot

@@ -1,5 +1,5 @@
 -- Walks along the edges of a supervoxel and the changes of an edge: where they stand, that they end, and what they find.
-use Rattle.std.proofs.Common.{◌≡◌, ℕ, ◌+◌, ◌*◌, ◌<◌, ◌≤◌, Bool, true, false, eqb, List, Option, Some, None, refl, sym, ◌∙◌, ap, subst, arith}
+use Rattle.std.proofs.Common.{◌≡◌, ℕ, ◌+◌, ◌*◌, ◌<◌, ◌≤◌, Bool, true, false, ◌&&◌, eqb, List, Option, Some, None, refl, sym, ◌∙◌, ap, subst, arith}
 use Rattle.std.specs.List.{slice_get, last_or}
 use Rattle.std.proofs.lemmas.Bool.{false≢true, eqb-true, or_parts}
 use Rattle.op_model.specs.declared.base.Dataset.{Dataset}
@@ -85,6 +85,16 @@ unfolding edge_at is_edge same_pair
 edge_apart q (EdgeRow made e) h = let o = or_parts (eqb e.pair.a q.a) (eqb e.pair.b q.a) h in rw o.0 refl
 edge_apart q row h = refl
 
+-- nor is one that is no edge of the greater end
+pub edge_apart_other : (q : Pair) (row : Row) → edge_at q.b row ≡ false → is_edge q row ≡ false
+unfolding edge_at is_edge same_pair
+edge_apart_other q (EdgeRow made e) h = let o = or_parts (eqb e.pair.a q.b) (eqb e.pair.b q.b) h in rw o.1 (neither (eqb e.pair.a q.a))
+  where
+    neither : (t : Bool) → (t && false) ≡ false
+    neither true = refl
+    neither false = refl
+edge_apart_other q row h = refl
+
 -- the record of a pair's edge is an edge of that pair
 pub edge_row : (q : Pair) (row : Row) → is_edge q row ≡ true → (made : ℕ) × (e : Edge) × (row ≡ EdgeRow made e) × (e.pair ≡ q)
 unfolding is_edge
@@ -108,15 +118,27 @@ headed_pair : (q : Pair) (d : Dataset) (m n : ℕ) → is_edge q (HeaderRow d m 
 unfolding is_edge
 headed_pair q d m n = refl
 
--- a pair whose lesser end is no supervoxel has no edge
-pub unknown_end : (d : Dataset) (b : Base) (log : List Entry) (words : List ℕ) → Image d b log words → (q : Pair) → FoundAmong words 1 (supervoxel_count words) q.a None → None ≡ first_place (is_edge q) (rows_of d b log)
-unknown_end d b log words i q f =
+-- no edge joins a pair that has none
+no_edge : (d : Dataset) (b : Base) (log : List Entry) (words : List ℕ) → Image d b log words → (q : Pair) → ((p made : ℕ) (e : Edge) → HoldsEdge d b log p made e → e.pair ≡ q → ⊥) → None ≡ first_place (is_edge q) (rows_of d b log)
+no_edge d b log words i q f =
     no_place (is_edge q) (rows_of d b log) (first_place (is_edge q) (rows_of d b log))
     (first_leads (is_edge q) (rows_of d b log) (HeaderRow d _ _) (header d b log words (parent_image d b log words i)) (headed_pair q d _ _))
-    (λ p row h t. (let (made, e, r, s) = edge_row q row t in
-    let k : has b.supervoxels e.pair.a ≡ true = (edge_facts d b log i.dataset i.base i.legal p made e (h ∙ ap (λ x. Some x) r)).2.0 in
-    let z = supervoxel_spot d b log words (parent_image d b log words i) q.a (subst (λ x. has b.supervoxels x.a ≡ true) s k) None f in
-    let none : None ≡ Some z.0 = z.1 in cc))
+    (λ p row h t. (let (made, e, r, s) = edge_row q row t in f p made e (h ∙ ap (λ x. Some x) r) s))
+
+-- a supervoxel that isn't found is none of the base
+not_found : (d : Dataset) (b : Base) (log : List Entry) (words : List ℕ) → Image d b log words → (v : ℕ) → has b.supervoxels v ≡ true → FoundAmong words 1 (supervoxel_count words) v None → ⊥
+not_found d b log words i v k f =
+    let z = supervoxel_spot d b log words (parent_image d b log words i) v k None f in
+    let none : None ≡ Some z.0 = z.1 in cc
+
+-- a pair of which an end is no supervoxel has no edge
+pub unknown_end : (d : Dataset) (b : Base) (log : List Entry) (words : List ℕ) → Image d b log words → (q : Pair) → FoundAmong words 1 (supervoxel_count words) q.a None → None ≡ first_place (is_edge q) (rows_of d b log)
+unknown_end d b log words i q f =
+    no_edge d b log words i q (λ p made e h s. not_found d b log words i q.a (subst (λ x. has b.supervoxels x.a ≡ true) s (edge_facts d b log i.dataset i.base i.legal p made e h).2.0) f)
+
+pub unknown_other : (d : Dataset) (b : Base) (log : List Entry) (words : List ℕ) → Image d b log words → (q : Pair) → FoundAmong words 1 (supervoxel_count words) q.b None → None ≡ first_place (is_edge q) (rows_of d b log)
+unknown_other d b log words i q f =
+    no_edge d b log words i q (λ p made e h s. not_found d b log words i q.b (subst (λ x. has b.supervoxels x.b ≡ true) s (edge_facts d b log i.dataset i.base i.legal p made e h).2.1) f)
 
 pub is_edge_told : (q : Pair) (made : ℕ) (e : Edge) (t : Bool) → same_pair e.pair q ≡ t → is_edge q (EdgeRow made e) ≡ t
 unfolding is_edge

@@ -1,1 +1,2 @@
 pub mod AtPrefix
+pub mod BaseEdges

@@ -11,6 +11,7 @@ ghost use Rattle.record_rows.specs.LogRows.{rows_of};
 ghost use Rattle.record_rows.specs.Readings.{Image, HoldsSupervoxel, HoldsEdge, first_place, last_place};
 ghost use Rattle.record_rows.specs.Sorted.{FoundAmong, supervoxel_count};
 
+use crate::base_edges::base_edge;
 use crate::chains::{first_change, first_edge, next_change, next_edge};
 use crate::fields::pair_of;
 use crate::inserting::is_same;
@@ -20,19 +21,41 @@ use pcg_base::Words;
 use row_words::{Spot, fixed, supervoxel};
 
 /// The record of the edge of a pair; `None` exactly where no edge joins the pair, whatever its
-/// state.
+/// state. An edge of the base is found by halving. For any other the edges of both ends are
+/// followed by turns, so that the shorter chain bounds the time.
 pub fn find_edge<W: Words>(w: &mut W, pair: Pair) -> Option<Spot>
     requires image { (d : Dataset) × (b : Base) × (log : List Entry) × Image d b log (W.words w.old) }
     ensures same { w.new ≡ w.old }
     ensures found { (d : Dataset) (b : Base) (log : List Entry) → Image d b log (W.words w.old) → result ≡ first_place (is_edge pair) (rows_of d b log) }
 {
-    let sv = supervoxel_of(w, pair.a)?;
-    let mut at = first_edge(w, sv);
-    while let Some(edge) = at {
+    let Some(edge) = base_edge(w, &pair) else {
+        return joined_edge(w, pair);
+    };
+    Some(edge)
+}
+
+// the record of the edge of a pair, found along the edges of both its ends
+fn joined_edge<W: Words>(w: &mut W, pair: Pair) -> Option<Spot>
+    requires image { (d : Dataset) × (b : Base) × (log : List Entry) × Image d b log (W.words w.old) }
+    ensures same { w.new ≡ w.old }
+    ensures found { (d : Dataset) (b : Base) (log : List Entry) → Image d b log (W.words w.old) → result ≡ first_place (is_edge pair) (rows_of d b log) }
+{
+    let lesser = supervoxel_of(w, pair.a)?;
+    let greater = supervoxel_of(w, pair.b)?;
+    let mut one = first_edge(w, lesser);
+    let mut other = first_edge(w, greater);
+    while let Some(edge) = one {
+        let Some(turn) = other else {
+            return None;
+        };
         if is_of(w, edge, &pair) {
-            return at;
+            return one;
         }
-        at = next_edge(w, edge, pair.a);
+        if is_of(w, turn, &pair) {
+            return other;
+        }
+        one = next_edge(w, edge, pair.a);
+        other = next_edge(w, turn, pair.b);
     }
     None
 }

@@ -10,12 +10,14 @@
 //!
 //! - `chains`: from one record of a chain to the next
 //! - `fields`: what the words of an edge or a change tell
+//! - `base_edges`: the record of a base's edge, by halving
 //! - `finding`: the record of a pair, and the ends of chains
 //! - `states`: the state of an edge at a prefix
 //! - `inserting`: edges put into an ascending list
 //! - `listing`: the edges of a supervoxel at a prefix
 #![tactic(auto)]
 
+mod base_edges;
 mod chains;
 mod fields;
 mod finding;

@@ -16,6 +16,7 @@ use pcg_base::Words;
 use row_words::Spot;
 
 /// Whether an edge is active after the first `prefix` entries. One that a later entry made isn't.
+/// The changes stand in the order of their entries, so the first one that is too new ends the walk.
 pub fn state_at<W: Words>(w: &mut W, edge: Spot, prefix: u32) -> bool
     requires edge { (d : Dataset) × (b : Base) × (log : List Entry) × (made : ℕ) × (e : Edge) × Image d b log (W.words w.old) × HoldsEdge d b log edge made e }
     ensures same { w.new ≡ w.old }
@@ -24,9 +25,10 @@ pub fn state_at<W: Words>(w: &mut W, edge: Spot, prefix: u32) -> bool
     let mut active = first_state(w, edge);
     let mut at = first_change(w, edge);
     while let Some(change) = at {
-        if changed_by(w, change) < prefix as u64 {
-            active = changed_state(w, change);
+        if changed_by(w, change) >= prefix as u64 {
+            return active;
         }
+        active = changed_state(w, change);
         at = next_change(w, change);
     }
     active
