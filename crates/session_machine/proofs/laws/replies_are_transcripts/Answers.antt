@@ -1,0 +1,12 @@
+use Rattle.std.proofs.Common.{suc}
+use Rattle.op_model.proofs.RetiresLemmas.{retires}
+use Rattle.session_machine.proofs.StepLemmas.{start_locked}
+use Rattle.session_machine.proofs.RunLemmas.{run_log, start_log}
+use Rattle.session_machine.proofs.TranscriptLemmas.{transcript}
+use Rattle.session_machine.specs.Machine.{run, start}
+use Rattle.session_machine.proofs.laws.replies_are_transcripts.Goals as goal
+
+pub returns : goal.returns
+returns c = λ d b valid base at first clients events allowed k s there.
+    transcript d b (run d b events (start d b at clients)).shared.log (suc k) s s.phase
+    ((run_log d b valid.layout (retires d b valid base) events (start d b at clients) (start_locked d b at clients) allowed (start_log d b at clients first)).clients k s there)

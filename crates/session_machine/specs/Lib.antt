@@ -1,0 +1,5 @@
+pub mod Machine
+pub mod Invariant
+pub mod Play
+pub mod Laws
+pub mod Worked
