@@ -1,0 +1,6 @@
+mod Parts
+mod Feeding
+mod Reaching
+mod Nexting
+mod Buffering
+mod Givings

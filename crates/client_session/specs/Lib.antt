@@ -1,0 +1,5 @@
+pub mod Feeds
+pub mod Finding
+pub mod Buffers
+pub mod Sessions
+pub mod Giving
