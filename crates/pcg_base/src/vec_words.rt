@@ -6,10 +6,13 @@ use crate::words::Words;
 use std::marker::Model;
 
 /// A vector of 64-bit words, with room for more that was taken beforehand. Contracts see its words
-/// and, beside them, for how many more there is room.
+/// and, beside them, for how many more there is room. For each eight words there is room for one
+/// hint of 32 bits, which no contract sees.
 #[derive(Debug, Drop)]
 pub struct VecWords {
     items: Vec<u64>,
+    // the hints of the first records; those of the others are 0
+    hints: Vec<u32>,
 }
 
 impl Model for VecWords {
@@ -22,7 +25,7 @@ impl Model for VecWords {
 }
 
 impl VecWords {
-    /// These words, with room for at least `spare` more.
+    /// These words, with room for at least `spare` more, and for the hints of all records.
     ///
     /// # Errors
     ///
@@ -32,10 +35,14 @@ impl VecWords {
         ensures spare { IfOk result (λ v. spare ≤ v.spare) }
     {
         let mut items = words;
-        match items.reserve(spare as usize) {
-            Ok(()) => Ok(VecWords { items }),
-            Err(_) => Err(NoMemory),
+        if items.reserve(spare as usize).is_err() {
+            return Err(NoMemory);
         }
+        let mut hints = Vec::new(*items.allocator());
+        if hints.reserve(items.capacity() / 8).is_err() {
+            return Err(NoMemory);
+        }
+        Ok(VecWords { items, hints })
     }
 
     /// Puts a word behind the others, for which there must be room. It takes no memory.
@@ -53,6 +60,24 @@ impl VecWords {
     {
         self.items[k as usize] = word;
     }
+
+    /// Keeps the place `to` as the hint for the record at place `k`, if there is room for it. It
+    /// changes nothing that a contract sees, and takes no memory.
+    pub fn set_hint(&mut self, k: u64, to: u64)
+        ensures { self.new ≡ self.old }
+    {
+        keep_hint(&mut self.hints, k as usize, to);
+    }
+}
+
+// writes the k-th hint, if there is room for it; the hints before it that weren't set are 0
+fn keep_hint(hints: &mut Vec<u32>, k: usize, to: u64) {
+    while hints.len() <= k && hints.len() < hints.capacity() {
+        hints.push_reserved(0);
+    }
+    if k < hints.len() && to < 4294967296 {
+        hints[k] = to as u32;
+    }
 }
 
 impl Words for VecWords {
@@ -64,5 +89,14 @@ impl Words for VecWords {
 
     fn word(&mut self, k: u64) -> u64 {
         self.items[k as usize]
+    }
+
+    fn hint(&self, k: u64) -> u64 {
+        let k = k as usize;
+        if k < self.hints.len() {
+            self.hints[k] as u64
+        } else {
+            0
+        }
     }
 }

@@ -14,4 +14,9 @@ pub trait Words {
         requires { k < length (words self.old) }
         ensures word { result ≡ slice_index (words self.old) k }
         ensures same { self.new ≡ self.old };
+
+    /// A hint that is kept for the record at place `k`: the place of another record, as of the newest
+    /// link of a child. 0 where there is none. No clause tells of the answer: whoever takes a hint
+    /// tests by the words whether it serves. So a wrong one costs time and nothing else.
+    fn hint(&self, k: u64) -> u64;
 }

@@ -21,7 +21,7 @@ unfoldable pub entry_told : Row → Option Entry
 entry_told (EntryRow e) = Some e
 entry_told row = None
 
-abbrev NoEntry : Row → Type 0
+abbrev pub NoEntry : Row → Type 0
 NoEntry row = entry_told row ≡ None
 
 -- the record of an entry stands at the place, and these are the entries before it
@@ -31,7 +31,7 @@ pub record Stand (d : Dataset) (b : Base) (log : List Entry) (place : ℕ) (e : 
   pub whole : log ≡ newer ++ e ∷ older
   pub stands : place ≡ length (rows_of d b (e ∷ older)) - 1
 
-get_cases : (xs ys : List Row) (p : ℕ) (row : Row) → slice_get (xs ++ ys) p ≡ Some row → (slice_get xs p ≡ Some row) ⊎ ((q : ℕ) × (p ≡ length xs + q) × (slice_get ys q ≡ Some row))
+pub get_cases : (xs ys : List Row) (p : ℕ) (row : Row) → slice_get (xs ++ ys) p ≡ Some row → (slice_get xs p ≡ Some row) ⊎ ((q : ℕ) × (p ≡ length xs + q) × (slice_get ys q ≡ Some row))
 get_cases [] ys p row h = inr (p, omega arith, h)
 get_cases (x ∷ xs) ys zero row h = inl h
 get_cases (x ∷ xs) ys (suc p) row h =
@@ -104,16 +104,16 @@ not_before n (EntryRow e) h = cc
 
 module _ (d : Dataset) (b : Base) where
   -- an entry's records but its last
-  front : List Entry → Entry → List Row
+  pub front : List Entry → Entry → List Row
   front log e =
       map (EdgeRow e.number) (new_edges d b log e)
       ++ (map NodeRow (new_nodes d b (e ∷ log) e.number) ++ (map LinkRow (new_links d b (e ∷ log) e.number) ++ (map ItemRow (marks e.number e.asked) ++ map (ChangeRow e.number) e.changed)))
 
-  front_then : (log : List Entry) (e : Entry) → entry_rows d b log e ≡ front log e ++ EntryRow e ∷ []
+  pub front_then : (log : List Entry) (e : Entry) → entry_rows d b log e ≡ front log e ++ EntryRow e ∷ []
   unfolding entry_rows front
   front_then log e = simp append_assoc
 
-  no_front : (log : List Entry) (e : Entry) → AllByRecursion NoEntry (front log e)
+  pub no_front : (log : List Entry) (e : Entry) → AllByRecursion NoEntry (front log e)
   unfolding front entry_told
   no_front log e =
       all_append NoEntry (map (EdgeRow e.number) (new_edges d b log e)) _ (all_map (EdgeRow e.number) NoEntry (new_edges d b log e) (all_each _ (new_edges d b log e) (λ x. refl)))
@@ -131,7 +131,7 @@ module _ (d : Dataset) (b : Base) where
         (all_map ChunkRow NoEntry (chunks d b) (all_each _ (chunks d b) (λ x. refl))),
   )
 
-  length-rows : (e : Entry) (log : List Entry) → length (rows_of d b (e ∷ log)) ≡ length (rows_of d b log) + length (front log e) + 1
+  pub length-rows : (e : Entry) (log : List Entry) → length (rows_of d b (e ∷ log)) ≡ length (rows_of d b log) + length (front log e) + 1
   unfolding rows_of
   length-rows e log = omega (arith, length-append (rows_of d b log) (entry_rows d b log e), ap length (front_then log e), length-append (front log e) (EntryRow e ∷ []))
 

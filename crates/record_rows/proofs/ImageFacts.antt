@@ -1,20 +1,43 @@
 -- What readers learn of the words of an image: where they end, and what each word that they tell is.
-use Rattle.std.proofs.Common.{◌≡◌, ℕ, ◌+◌, ◌*◌, ◌<◌, ◌≤◌, ◌^◌, Bool, true, false, cond, List, [], ◌∷◌, length, take, drop, get_or, ◌∙◌, ap, arith, length-drop}
+use Rattle.std.proofs.Common.{◌≡◌, ℕ, ◌+◌, ◌*◌, ◌%◌, ◌<◌, ◌≤◌, ◌^◌, Bool, true, false, cond, List, [], ◌∷◌, length, take, drop, get_or, sym, ◌∙◌, ap, subst, arith, length-drop}
 use Rattle.std.proofs.lemmas.Option.{slice_get_within}
 use Rattle.op_model.specs.declared.base.Dataset.{Dataset}
 use Rattle.op_model.specs.declared.base.Base.{Base}
 use Rattle.op_model.specs.declared.entry.Entry.{Entry}
 use Rattle.op_model.specs.Records.{records}
-use Rattle.record_rows.specs.Rows.{Row, HeaderRow}
+use Rattle.record_rows.specs.Rows.{Row, HeaderRow, SupervoxelRow, ChunkRow, NodeRow, LinkRow, EdgeRow, ChangeRow, ItemRow, EntryRow}
 use Rattle.record_rows.specs.Chains.{Aim, Nowhere, First, Next, aims}
-use Rattle.record_rows.specs.Words.{place_from, fixed_words, pointer_word}
+use Rattle.record_rows.specs.Words.{place_from, fixed_words, pointer_word, words_of}
 use Rattle.record_rows.specs.LogRows.{rows_of, chunks}
 use Rattle.record_rows.specs.Images.{told}
-use Rattle.record_rows.specs.Readings.{Image, ParentImage, Holds, place_of, first_place, next_place}
+use Rattle.record_rows.specs.Readings.{Image, ParentImage, IsOther, IsOtherKind, KindsApart, Holds, place_of, first_place, next_place}
+use Rattle.record_rows.specs.Ascending.{kind_at}
 use Rattle.record_rows.proofs.BaseCounts.{counted}
 use Rattle.record_rows.proofs.Lookups.{fixed_at, pointer_at}
 use Rattle.record_rows.proofs.TellLemmas.{word_told, word_within}
 use Rattle.record_rows.proofs.ToldLaws.{headed, standing_tells}
+
+-- the words of records have their own kinds
+kinds_apart : (rows : List Row) → KindsApart rows (words_of rows)
+unfolding kind_at fixed_words
+kinds_apart rows p row h o = subst (λ i. IsOtherKind (get_or (words_of rows) i 0 % 2 ^ 8)) (eight p) (go row (fixed_at rows p 0 row h (omega arith)) o)
+  where
+    eight : (p : ℕ) → 8 * p + 0 ≡ 8 * p
+    eight p = omega arith
+
+    six : (k : ℕ) → 6 ≤ k → k < 9 → IsOtherKind k
+    six k l m = ((λ e. absurd (omega arith)), (λ e. absurd (omega arith)), (λ e. absurd (omega arith)), (λ e. absurd (omega arith)), (λ e. absurd (omega arith)), (λ e. absurd (omega arith)))
+
+    go : (row : Row) → get_or (words_of rows) (8 * p + 0) 0 ≡ get_or (fixed_words (take p rows) row) 0 0 → IsOther row → IsOtherKind (get_or (words_of rows) (8 * p + 0) 0 % 2 ^ 8)
+    go (EdgeRow made e) w o = six _ (omega arith) (omega arith)
+    go (ChangeRow entry c) w o = six _ (omega arith) (omega arith)
+    go (ItemRow i) w o = six _ (omega arith) (omega arith)
+    go (HeaderRow d s c) w o = absurd o
+    go (SupervoxelRow v) w o = absurd o
+    go (ChunkRow c) w o = absurd o
+    go (NodeRow n) w o = absurd o
+    go (LinkRow l) w o = absurd o
+    go (EntryRow e) w o = absurd o
 
 -- the image of a log tells of its nodes and parents
 pub parent_image : (d : Dataset) (b : Base) (log : List Entry) (words : List ℕ) → Image d b log words → ParentImage d b log words
@@ -25,6 +48,7 @@ parent_image d b log words i = record {
   numbers = i.numbers;
   fits = i.fits;
   parents = standing_tells d b words log i.stands;
+  apart = subst (KindsApart (rows_of d b log)) (sym i.stands) (kinds_apart (rows_of d b log));
 }
 
 place_small : (test : Row → Bool) (place : ℕ) (rows : List Row) → place_from test place rows ≤ place + length rows

@@ -88,7 +88,7 @@ module _ (d : Dataset) (b : Base) where
       ∙ (ap (λ ls. filter (below id prefix) (all_links d b log) ++ ls) (picked_entry id prefix log e)
       ∙ sym (filter_append (below id prefix) (all_links d b log) (new_links d b (e ∷ log) e.number))))
 
-  links_entry : (log : List Entry) (k : ℕ) → AllByRecursion (λ m. m.entry ≡ k) (new_links d b log k)
+  pub links_entry : (log : List Entry) (k : ℕ) → AllByRecursion (λ m. m.entry ≡ k) (new_links d b log k)
   unfolding new_links layer_nodes links_of new_node
   links_entry log k =
       all_flat (λ l. flat_map (links_of d b log l) (layer_nodes d b log k l)) (λ m. m.entry ≡ k) (layers d)

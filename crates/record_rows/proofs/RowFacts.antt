@@ -120,7 +120,7 @@ numbered_more j k l (EntryRow e) h = let m : e.number < j = h in omega arith
 numbered_more j k l row h = tt
 
 module _ (d : Dataset) (b : Base) where
-  nodes_made : (log : List Entry) (k : ℕ) → AllByRecursion (λ n. n.made ≡ k) (new_nodes d b log k)
+  pub nodes_made : (log : List Entry) (k : ℕ) → AllByRecursion (λ n. n.made ≡ k) (new_nodes d b log k)
   unfolding new_nodes layer_nodes new_node
   nodes_made log k =
       all_flat (layer_nodes d b log k) (λ n. n.made ≡ k) (layers d)

@@ -8,5 +8,6 @@ pub mod Versions
 pub mod Readings
 pub mod Walks
 pub mod Sorted
+pub mod Ascending
 pub mod Laws
 pub mod Inner

@@ -9,11 +9,12 @@ use Rattle.op_model.specs.declared.entry.Entry.{Entry}
 use Rattle.op_model.specs.Records.{records}
 use Rattle.op_model.specs.Valid.{IsDataset, IsBase}
 use Rattle.op_model.specs.Legal.{Legal}
-use Rattle.record_rows.specs.Rows.{Row, SupervoxelRow, ChunkRow, NodeRow, EdgeRow, ChangeRow, Node}
+use Rattle.record_rows.specs.Rows.{Row, SupervoxelRow, ChunkRow, NodeRow, EdgeRow, ChangeRow, ItemRow, Node}
 use Rattle.record_rows.specs.Chains.{has_id}
 use Rattle.record_rows.specs.Words.{place_from}
 use Rattle.record_rows.specs.LogRows.{rows_of}
 use Rattle.record_rows.specs.Images.{Stands, Parents}
+use Rattle.record_rows.specs.Ascending.{kind_at}
 
 -- client and line are numbers of 32 bits
 abbrev pub HasNumbers : Entry → Type 0
@@ -28,7 +29,22 @@ pub record Image (d : Dataset) (b : Base) (log : List Entry) (words : List ℕ) 
   pub fits : records d b log ≤ d.capacity
   pub stands : Stands d b words log
 
--- the words tell of the nodes and their parents what those of this legal log do
+-- the record is of an edge, a change or an item
+abbrev pub IsOther : Row → Type 0
+IsOther (EdgeRow made e) = Unit {0}
+IsOther (ChangeRow entry c) = Unit {0}
+IsOther (ItemRow i) = Unit {0}
+IsOther row = ⊥
+
+-- no header, supervoxel, chunk, node, link or entry is of this kind
+abbrev pub IsOtherKind : ℕ → Type 0
+IsOtherKind kind = (kind ≡ 1 → ⊥) × (kind ≡ 2 → ⊥) × (kind ≡ 3 → ⊥) × (kind ≡ 4 → ⊥) × (kind ≡ 5 → ⊥) × (kind ≡ 9 → ⊥)
+
+-- no record of an edge, a change or an item has the kind of another record
+abbrev pub KindsApart : List Row → List ℕ → Type 0
+KindsApart rows words = (place : ℕ) (row : Row) → slice_get rows place ≡ Some row → IsOther row → IsOtherKind (kind_at words place)
+
+-- the words tell of the nodes and their parents what those of this legal log do, and no other record has the kind of a header, supervoxel, chunk, node, link or entry
 pub record ParentImage (d : Dataset) (b : Base) (log : List Entry) (words : List ℕ) : Type 0 where
   pub dataset : IsDataset d
   pub base : IsBase d b
@@ -36,6 +52,15 @@ pub record ParentImage (d : Dataset) (b : Base) (log : List Entry) (words : List
   pub numbers : AllByRecursion HasNumbers log
   pub fits : records d b log ≤ d.capacity
   pub parents : Parents d b words log
+  pub apart : KindsApart (rows_of d b log) words
+
+-- this holds of some log whose image the words are (`Image`), or of whose nodes and parents they tell (`ParentImage`)
+abbrev pub ForSomeLog : (Dataset → Base → List Entry → List ℕ → Type 0) → List ℕ → (Dataset → Base → List Entry → Type 0) → Type 0
+ForSomeLog Reads words P = (d : Dataset) × (b : Base) × (log : List Entry) × Reads d b log words × P d b log
+
+-- this holds of each log whose image the words are, or of whose nodes and parents they tell
+abbrev pub ForEachLog : (Dataset → Base → List Entry → List ℕ → Type 0) → List ℕ → (Dataset → Base → List Entry → Type 0) → Type 0
+ForEachLog Reads words P = (d : Dataset) (b : Base) (log : List Entry) → Reads d b log words → P d b log
 
 -- this record of the log stands at the place
 abbrev pub Holds : Dataset → Base → List Entry → ℕ → Row → Type 0

@@ -7,10 +7,11 @@ ghost use Rattle.record_rows.specs.Growth.{stored};
 ghost use Rattle.row_words.specs.Drafts.{applied, store_of};
 
 use crate::draft::{Draft, DraftLink};
-use pcg_base::VecWords;
+use pcg_base::{VecWords, Words};
 
 /// Fills the draft's pointers and puts its records behind the words, which must end at the draft's
-/// tail and have room for them. It takes no memory.
+/// tail and have room for them. Each link becomes the hint for its child's record. It takes no
+/// memory.
 pub fn apply(w: &mut VecWords, draft: &Draft)
     requires tail { length w.old.words ≡ 8 * draft.now.tail }
     requires room { 8 * length draft.now.rows ≤ w.old.spare }
@@ -52,6 +53,25 @@ fn put_rows(w: &mut VecWords, draft: &Draft)
 
 /// Puts one record behind the words.
 fn put_row(w: &mut VecWords, row: [u64; 8])
+    requires room { 8 ≤ w.old.spare }
+    ensures { w.new ≡ word_store (w.old.words ++ row) (w.old.spare - 8) }
+{
+    let place = w.len() / 8;
+    push_row(w, row);
+    keep_link(w, row, place);
+}
+
+// a link is kept as the hint for its child's record, since it is the child's newest
+fn keep_link(w: &mut VecWords, row: [u64; 8], place: u64)
+    ensures { w.new ≡ w.old }
+{
+    if row[0] == 5 {
+        w.set_hint(row[2], place);
+    }
+}
+
+// the eight words of a record behind the others
+fn push_row(w: &mut VecWords, row: [u64; 8])
     requires room { 8 ≤ w.old.spare }
     ensures { w.new ≡ word_store (w.old.words ++ row) (w.old.spare - 8) }
 {
