@@ -1,8 +1,11 @@
 pub mod EntryWords
 pub mod KindCodes
 pub mod WalkBack
+pub mod Halves
 pub mod TimeLemmas
+pub mod TimePlaces
 pub mod EntryParts
+pub mod Seeks
 pub mod ChainWalk
 pub mod ChangeWords
 pub mod ItemWords

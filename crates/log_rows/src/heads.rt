@@ -9,7 +9,8 @@ ghost use Rattle.record_rows.specs.Readings.{ParentImage};
 ghost use Rattle.log_rows.specs.Entries.{AtEntry, HoldsEntry};
 ghost use Rattle.log_rows.specs.Heads.{head_of};
 
-use crate::records::{Head, before, head_at, newest, number};
+use crate::records::{Head, before, count, head_at, newest, number};
+use crate::seeking::{first_of, seek};
 use op_model::Kind;
 use pcg_base::Words;
 use row_words::Spot;
@@ -30,14 +31,9 @@ pub fn entry_spot<W: Words>(w: &mut W, n: u32) -> Spot
     ensures same { w.new ≡ w.old }
     ensures is { (d : Dataset) (b : Base) (log : List Entry) (e : Entry) → ParentImage d b log (W.words w.old) → entry_at log n ≡ Some e → HoldsEntry d b log result e }
 {
-    let mut spot = newest(w);
-    while number(w, spot) != n {
-        let Some(older) = before(w, spot) else {
-            return spot;
-        };
-        spot = older;
-    }
-    spot
+    let count = count(w);
+    let first = first_of(w, n, count);
+    seek(w, n, first, count)
 }
 
 /// What entry `n`, of which there must be one, is.

@@ -2,8 +2,9 @@
 //! which were there at a time.
 //!
 //! `length`, `head`, `last_about` and `prefix_at` answer from the records of entries alone: what
-//! the records of edges, changes and items hold counts for nothing (`ParentImage` of record_rows).
-//! The other calls need the whole image. No call changes what a contract sees of the words.
+//! the records of edges, changes and items hold counts for nothing but for their kinds
+//! (`ParentImage` of record_rows). The other calls need the whole image. No call changes what a
+//! contract sees of the words.
 //!
 //! The promise: from the records of entries alone, [`length`] says how many entries there are,
 //! [`head`] what an entry's record tells, [`last_about`] which entry is the last one about an
@@ -17,6 +18,7 @@
 //! - `changing`: which pairs an entry changed
 //! - `records`: the record of one entry, and the way to the entry before
 //! - `marks`: the ids of an entry's request
+//! - `seeking`: the record of an entry, found by halving places
 #![tactic(auto)]
 
 mod asking;
@@ -24,6 +26,7 @@ mod changing;
 mod heads;
 mod marks;
 mod records;
+mod seeking;
 mod times;
 
 pub use asking::asked;

@@ -40,6 +40,14 @@ pub fn newest<W: Words>(w: &W) -> Spot
     Spot((w.len() / 8 - 1) as u32)
 }
 
+/// How many records there are.
+pub fn count<W: Words>(w: &W) -> u32
+    requires image { (d : Dataset) × (b : Base) × (log : List Entry) × ParentImage d b log (W.words w.now) }
+    ensures is { (d : Dataset) (b : Base) (log : List Entry) → ParentImage d b log (W.words w.now) → result ≡ length (rows_of d b log) }
+{
+    (w.len() / 8) as u32
+}
+
 /// The number of the entry whose record stands there.
 pub fn number<W: Words>(w: &mut W, entry: Spot) -> u32
     requires entry { AtEntry (W.words w.old) entry }

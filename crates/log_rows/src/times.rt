@@ -7,8 +7,11 @@ ghost use Rattle.op_model.specs.declared.entry.Entry.{Entry};
 ghost use Rattle.record_rows.specs.Readings.{ParentImage};
 ghost use Rattle.log_rows.specs.Times.{count_to, prefix_of_time};
 
-use crate::records::{before, newest, number, time};
+use crate::heads::entry_spot;
+use crate::records::{count, newest, number, time};
+use crate::seeking::next_own;
 use pcg_base::Words;
+use row_words::Spot;
 
 /// Why no entries are told for a time.
 #[derive(Clone, Copy, PartialEq, Eq, Debug, Drop)]
@@ -40,14 +43,24 @@ fn count_to<W: Words>(w: &mut W, t: u64) -> Result<u32, TimeRefusal>
     ensures same { w.new ≡ w.old }
     ensures is { (d : Dataset) (b : Base) (log : List Entry) → ParentImage d b log (W.words w.old) → result ≡ count_to log t }
 {
-    let mut spot = newest(w);
-    while time(w, spot) > t {
-        let Some(older) = before(w, spot) else {
-            return Err(TimeRefusal::TooEarly {
-                first: time(w, spot),
-            });
-        };
-        spot = older;
+    let start = entry_spot(w, 0);
+    let first = time(w, start);
+    if t < first {
+        return Err(TimeRefusal::TooEarly { first });
     }
-    Ok(number(w, spot) + 1)
+    let count = count(w);
+    let mut low = start.0;
+    let mut high = count;
+    let mut found = 0;
+    while low < high {
+        let middle = low + (high - low) / 2;
+        let own = next_own(w, middle, count);
+        if time(w, Spot(own)) <= t {
+            low = own + 1;
+            found = number(w, Spot(own));
+        } else {
+            high = middle;
+        }
+    }
+    Ok(found + 1)
 }
