@@ -10,7 +10,8 @@ use Rattle.op_model.specs.Operations.{touched}
 use Rattle.op_model.specs.Legal.{Legal, LegalPlan}
 use Rattle.op_model.specs.Laws.{Lasts}
 use Rattle.op_model.proofs.LastingLemmas.{lasts, legal_plan_lasts}
-use Rattle.shared_rows.specs.Locks.{Spares, lock_of}
+use Rattle.op_model.specs.Locks.{lock_of}
+use Rattle.shared_rows.specs.Locks.{Spares}
 use Rattle.root_locks.specs.Laws.{PinsKeepEdits, PinsKeepPlans}
 
 -- a root whose lock is pinned isn't among those that an entry retired

@@ -13,7 +13,8 @@ use Rattle.op_model.specs.Operations.{touched, next_entry}
 use Rattle.op_model.specs.Refusals.{refuse_early}
 use Rattle.op_model.specs.Legal.{Legal, LegalPlan}
 use Rattle.op_model.specs.Laws.{Lasts}
-use Rattle.shared_rows.specs.Locks.{Covers, Follows, lock_of}
+use Rattle.op_model.specs.Locks.{lock_of}
+use Rattle.shared_rows.specs.Locks.{Covers, Follows}
 use Rattle.root_locks.specs.Masks.{has_bit, locks_below}
 
 -- the locks of all roots that an edit touches at the log are pinned
@@ -32,10 +33,10 @@ PinsKeepPlans =
     (d : Dataset) (b : Base) (later log : List Entry) (edit : Edit) (changed : List Changed) (pinned : List ℕ) → IsLayout d.layout → Legal d b log → Legal d b later → LegalPlan d b log edit changed
     → TouchedPinned d b log edit pinned → Follows d.layout later log pinned → LegalPlan d b later edit changed
 
--- the locks of the roots that the next entry retires are among those of the roots that its edit touches
+-- the locks of the roots that the next entry retires are pinned if those of the roots that its edit touches are
 abbrev pub RetiredAreTouched : Type 0
 RetiredAreTouched =
-    (d : Dataset) (b : Base) (log : List Entry) (client line at : ℕ) (edit : Edit) (pinned : List ℕ) → IsDataset d → IsBase d b → Legal d b log
+    (d : Dataset) (b : Base) (log : List Entry) (client line at : ℕ) (edit : Edit) (pinned : List ℕ) → IsDataset d → IsBase d b → Legal d b log → refuse_early d b log edit ≡ None
     → TouchedPinned d b log edit pinned → Covers d.layout pinned (next_entry d b log client line at edit)
 
 -- a mask that has the locks of some roots: once they are taken, all of these locks are held

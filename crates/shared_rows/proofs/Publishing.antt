@@ -18,7 +18,8 @@ use Rattle.shared_rows.specs.declared.view.View.{View}
 use Rattle.shared_rows.specs.declared.view.Old.{Old}
 use Rattle.shared_rows.specs.Origin.{Origin}
 use Rattle.shared_rows.specs.Logs.{Extends, entries_by, ClientsTo}
-use Rattle.shared_rows.specs.Locks.{lock_of, Spares, Covers}
+use Rattle.op_model.specs.Locks.{lock_of}
+use Rattle.shared_rows.specs.Locks.{Spares, Covers}
 use Rattle.shared_rows.specs.Board.{Board, stored_at, total, weight}
 use Rattle.shared_rows.specs.Rule.{has_number, FitsOld, Fits, Kept, Holds}
 use Rattle.shared_rows.specs.Drafting.{word_of, words_by, image_after, Whole}
@@ -64,9 +65,9 @@ olds-longer count log e n (o ∷ os) is none_there h =
       olds-longer count log e n os is (omega arith) h.1,
     )
 
-lock-low : (f : LayoutForm) (root : ℕ) → lock_of f root < 64
+pub lock_low : (f : LayoutForm) (root : ℕ) → lock_of f root < 64
 unfolding lock_of
-lock-low f root = omega arith
+lock_low f root = omega arith
 
 module _ (a : Origin) (b : Board) (views : List View) (id : ℕ) (v : View) (t : ℕ) (e : Entry) (h : Kept a b views) (at : get_elem? views id ≡ some v) (fresh : v.fresh ≡ true) (here : v.gone ≡ false) (pos : 0 < v.number) (whole : Whole v t e) where
   abbrev mine : Fits a b v
@@ -129,7 +130,7 @@ module _ (a : Origin) (b : Board) (views : List View) (id : ℕ) (v : View) (t :
     where
       go : (roots : List ℕ) → AllByRecursion (λ root. has v.pinned (lock_of a.dataset.layout root) ≡ true) roots → AllByRecursion (λ root. has u.pinned (lock_of a.dataset.layout root) ≡ false) roots
       go [] c = tt
-      go (root ∷ roots) c = (apart-pins j u apart there (lock_of a.dataset.layout root) (lock-low a.dataset.layout root) c.0, go roots c.1)
+      go (root ∷ roots) c = (apart-pins j u apart there (lock_of a.dataset.layout root) (lock_low a.dataset.layout root) c.0, go roots c.1)
 
   at_most : total (has_number v.number) views ≤ 1
   at_most = let e = h.numbers v.number pos in let w = weight_le (leb v.number b.count) in omega arith

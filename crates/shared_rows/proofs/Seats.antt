@@ -28,7 +28,7 @@ no_number n pos = ap weight (ne_eqb 0 n (λ same. omega arith))
 pub spares-none : (f : _) (e : Entry) → Spares f [] e
 spares-none f e = go e.retired
   where
-    go : (roots : List ℕ) → AllByRecursion (λ root. has [] (Rattle.shared_rows.specs.Locks.lock_of f root) ≡ false) roots
+    go : (roots : List ℕ) → AllByRecursion (λ root. has [] (Rattle.op_model.specs.Locks.lock_of f root) ≡ false) roots
     go [] = tt
     go (root ∷ roots) = (refl, go roots)
 

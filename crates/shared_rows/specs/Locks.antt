@@ -1,13 +1,10 @@
--- The locks of roots.
-use Rattle.std.specs.Prelude.{◌≡◌, ℕ, ◌%◌, ◌==◌, true, false, if◌then◌else◌, List, [], ◌∷◌, ◌++◌}
+-- Which roots' locks an entry touches, and logs that grow beside them.
+use Rattle.std.specs.Prelude.{◌≡◌, ℕ, ◌==◌, true, false, if◌then◌else◌, List, [], ◌∷◌, ◌++◌}
 use Rattle.std.specs.List.{AllByRecursion}
-use Rattle.node_ids.specs.Ids.{LayoutForm, parts_of}
+use Rattle.node_ids.specs.Ids.{LayoutForm}
 use Rattle.graph_model.specs.Lists.{has}
 use Rattle.op_model.specs.declared.entry.Entry.{Entry}
-
--- the number of a root's lock
-unfoldable pub lock_of : LayoutForm → ℕ → ℕ
-lock_of layout root = (parts_of layout root).segment % 64
+use Rattle.op_model.specs.Locks.{lock_of}
 
 -- the entry retired no root with one of these locks
 abbrev pub Spares : LayoutForm → List ℕ → Entry → Type 0
