@@ -80,7 +80,7 @@ pub fn last_about<W: Words>(w: &mut W, op: u32) -> u32
 }
 
 /// Whether the entry whose record stands there is entry `op`, or undoes or redoes it.
-fn is_about<W: Words>(w: &mut W, entry: Spot, op: u32) -> bool
+pub fn is_about<W: Words>(w: &mut W, entry: Spot, op: u32) -> bool
     requires entry { AtEntry (W.words w.old) entry }
     ensures same { w.new ≡ w.old }
     ensures is { (d : Dataset) (b : Base) (log : List Entry) (e : Entry) → ParentImage d b log (W.words w.old) → HoldsEntry d b log entry e → result ≡ (e.number == op || undoes e.asked op || redoes e.asked op) }
