@@ -1,12 +1,10 @@
 //! The last entry about an operation, along the changes of its first pair.
 
-ghost use Rattle.std.specs.Prelude.{◌≡◌, ◌<◌, ◌||◌, ◌==◌, List, length, Some};
-ghost use Rattle.op_model.specs.declared.base.Dataset.{Dataset};
-ghost use Rattle.op_model.specs.declared.base.Base.{Base};
+ghost use Rattle.std.specs.Prelude.{◌≡◌, ◌<◌, ◌||◌, ◌==◌, length, Some};
 ghost use Rattle.op_model.specs.declared.entry.Entry.{Entry};
-ghost use Rattle.op_model.specs.Operations.{undoes, redoes, entry_at, last_about};
-ghost use Rattle.record_rows.specs.Readings.{Image, ParentImage};
-ghost use Rattle.log_rows.specs.Entries.{IsFirstChange};
+ghost use Rattle.op_model.specs.Operations.{undoes, redoes, last_about};
+ghost use Rattle.record_rows.specs.Readings.{ForEachLog, ForSomeLog, Image, ParentImage};
+ghost use Rattle.log_rows.specs.Entries.{ForEntry, IsFirstChange};
 
 use crate::changing::{changer, first_change, later_change};
 use crate::heads::{entry_spot, is_about};
@@ -17,9 +15,9 @@ use row_words::Spot;
 /// [`crate::last_about`] gives it. Each undo and redo of `op` changed its first pair too, so no more
 /// than the changes of this pair from its own on are looked at. There must be an entry `op`.
 pub fn last_about_by_changes<W: Words>(w: &mut W, op: u32) -> u32
-    requires entry { (d : Dataset) × (b : Base) × (log : List Entry) × Image d b log (W.words w.old) × (op < length log) }
+    requires entry { ForSomeLog Image (W.words w.old) (λ d b log. op < length log) }
     ensures same { w.new ≡ w.old }
-    ensures is { (d : Dataset) (b : Base) (log : List Entry) → Image d b log (W.words w.old) → (e : Entry) × (last_about log op ≡ Some e) × (result ≡ e.number) }
+    ensures is { ForEachLog Image (W.words w.old) (λ d b log. (e : Entry) × (last_about log op ≡ Some e) × (result ≡ e.number)) }
 {
     match first_change(w, op) {
         Some(change) => last_from(w, op, change),
@@ -29,10 +27,10 @@ pub fn last_about_by_changes<W: Words>(w: &mut W, op: u32) -> u32
 
 /// The same for an operation whose first change stands there.
 fn last_from<W: Words>(w: &mut W, op: u32, first: Spot) -> u32
-    requires entry { (d : Dataset) × (b : Base) × (log : List Entry) × Image d b log (W.words w.old) × (op < length log) }
+    requires entry { ForSomeLog Image (W.words w.old) (λ d b log. op < length log) }
     requires change { IsFirstChange (W.words w.old) op first }
     ensures same { w.new ≡ w.old }
-    ensures is { (d : Dataset) (b : Base) (log : List Entry) → Image d b log (W.words w.old) → (e : Entry) × (last_about log op ≡ Some e) × (result ≡ e.number) }
+    ensures is { ForEachLog Image (W.words w.old) (λ d b log. (e : Entry) × (last_about log op ≡ Some e) × (result ≡ e.number)) }
 {
     let mut found = op;
     let mut at = Some(first);
@@ -48,9 +46,9 @@ fn last_from<W: Words>(w: &mut W, op: u32, first: Spot) -> u32
 
 /// Whether entry `n`, of which there must be one, is entry `op`, or undoes or redoes it.
 fn is_turn<W: Words>(w: &mut W, n: u32, op: u32) -> bool
-    requires entry { (d : Dataset) × (b : Base) × (log : List Entry) × ParentImage d b log (W.words w.old) × (n < length log) }
+    requires entry { ForSomeLog ParentImage (W.words w.old) (λ d b log. n < length log) }
     ensures same { w.new ≡ w.old }
-    ensures is { (d : Dataset) (b : Base) (log : List Entry) (e : Entry) → ParentImage d b log (W.words w.old) → entry_at log n ≡ Some e → result ≡ (e.number == op || undoes e.asked op || redoes e.asked op) }
+    ensures is { ForEntry ParentImage (W.words w.old) n (λ d b log e. result ≡ (e.number == op || undoes e.asked op || redoes e.asked op)) }
 {
     let spot = entry_spot(w, n);
     is_about(w, spot, op)
