@@ -10,3 +10,6 @@ pub mod NextEntries
 pub mod ChainWalk
 pub mod ChangeWords
 pub mod ItemWords
+pub mod ChangeOrder
+pub mod AboutChanges
+pub mod TurnWalks
