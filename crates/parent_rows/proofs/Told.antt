@@ -112,6 +112,14 @@ module _ (d : Dataset) (b : Base) (log : List Entry) (words : List ℕ) (i : Par
     told_first d b log words i p 0 (ChunkRow c) (node_in c) h (omega arith) refl refl,
   )
 
+  pub chunk_id : (p c : ℕ) → HoldsChunk d b log p c → Tells words p 1 c
+  unfolding told fixed_words
+  chunk_id p c h = (within d b log words i p (ChunkRow c) h, told_fixed d b log words i p 1 (ChunkRow c) h (omega arith) refl)
+
+  pub chunk_key : (p c : ℕ) → HoldsChunk d b log p c → id_at words p ≡ c
+  unfolding id_at
+  chunk_key p c h = (chunk_id p c h).1
+
   pub link_child : (p : ℕ) (l : Link) → Holds d b log p (LinkRow l) → Tells words p 1 l.child
   unfolding told fixed_words
   link_child p l h = (within d b log words i p (LinkRow l) h, told_fixed d b log words i p 1 (LinkRow l) h (omega arith) refl)

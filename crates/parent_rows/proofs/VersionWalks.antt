@@ -1,23 +1,23 @@
 -- Walks along the links of a child.
-use Rattle.std.proofs.Common.{◌≡◌, ℕ, zero, suc, ◌+◌, ◌*◌, ◌%◌, ◌^◌, ◌<◌, ◌≤◌, Bool, true, false, cond, ◌&&◌, eqb, ltb, List, [], ◌∷◌, length, map, drop, get_or, Option, Some, None, refl, sym, ◌∙◌, ap, subst, inl, inr, ◌⊎◌, arith, eq-eqb, eq-or-lt_of_le}
+use Rattle.std.proofs.Common.{◌≡◌, ℕ, suc, ◌+◌, ◌*◌, ◌<◌, ◌≤◌, Bool, true, false, cond, ◌&&◌, eqb, ltb, List, [], ◌∷◌, length, map, drop, get_or, Option, Some, None, refl, sym, ◌∙◌, ap, subst, inl, inr, arith, eq-eqb, eq-or-lt_of_le}
 use Rattle.std.specs.List.{slice_get, filter_map, cons_option, last_or, list_any}
-use Rattle.std.proofs.lemmas.Bool.{false≢true, true≢false, cond-false, ne_eqb, eqb-true, lt-ltb, le-ltb, ltb-true, and_parts, and_from}
+use Rattle.std.proofs.lemmas.Bool.{false≢true, true≢false, cond-false, ne_eqb, eqb-true, lt-ltb, le-ltb, and_parts, and_from}
 use Rattle.op_model.specs.declared.base.Dataset.{Dataset}
 use Rattle.op_model.specs.declared.base.Base.{Base}
 use Rattle.op_model.specs.declared.entry.Entry.{Entry}
-use Rattle.record_rows.specs.LogRows.{rows_of, chunks}
+use Rattle.record_rows.specs.LogRows.{rows_of}
 use Rattle.record_rows.specs.Rows.{Row, Link, LinkRow}
 use Rattle.record_rows.specs.Chains.{version_of, is_node}
 use Rattle.record_rows.specs.Words.{place_from}
 use Rattle.record_rows.specs.Versions.{version_below, parent_place}
-use Rattle.record_rows.specs.Readings.{ParentImage, Holds, HoldsId, place_of, first_place, next_place, members, last_place}
-use Rattle.record_rows.proofs.WalkLemmas.{LeadsTo, from_here, drop_step, places_from, next_leads, first_leads}
+use Rattle.record_rows.specs.Readings.{ParentImage, Holds, place_of, first_place, next_place, members, last_place}
+use Rattle.record_rows.proofs.WalkLemmas.{LeadsTo, drop_step}
 use Rattle.record_rows.proofs.ImageFacts.{header}
 use Rattle.record_rows.proofs.NodePlaces.{found_from}
 use Rattle.record_rows.proofs.RowFacts.{all_at, parent_known}
 use Rattle.record_rows.proofs.EntryPlaces.{Names, whole_of, named_below, in_order}
 use Rattle.parent_rows.proofs.ChainWalks.{NoHeader, NarrowLast, narrow_start, narrow_step, narrow_end, narrow_stop}
-use Rattle.parent_rows.proofs.Told.{small, Tells, link_child, link_entry}
+use Rattle.parent_rows.proofs.Told.{small, link_child, link_entry}
 use Rattle.parent_rows.proofs.RowKinds.{kind_link}
 use Rattle.parent_rows.specs.Steps.{IsLinkOf, MayStart, is_version}
 
