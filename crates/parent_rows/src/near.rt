@@ -51,16 +51,20 @@ fn tested<W: Words>(w: &mut W, place: u64, chunk: Spot, id: u64) -> Option<Spot>
 }
 
 // of the top chunk the place of the last root that an entry behind the first one made, of the newest
-// entry whose last root is at most this one; 0 where there is none, and for other chunks
+// entry whose last root is at most this one; 0 where there is none, and for other chunks. The last
+// record is the newest entry's own, which word 3 numbers
 fn root_place<W: Words>(w: &mut W, chunk: Spot, id: u64) -> u64
     ensures same { w.new ≡ w.old }
 {
     if chunk.0 as u64 != last_chunk(w) {
         return 0;
     }
+    let mut high = w.len() / 8;
+    if word_or(w, high.saturating_sub(1), 3) == 0 {
+        return 0;
+    }
     let mut found = 0;
     let mut low = word_or(w, chunk.0 as u64, 4);
-    let mut high = w.len() / 8;
     while low < high {
         let middle = low + (high - low) / 2;
         let mark = next_mark(w, middle, high);
