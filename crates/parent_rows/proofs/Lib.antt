@@ -6,3 +6,4 @@ pub mod ChunkWalks
 pub mod Seeks
 pub mod Sought
 pub mod Leaps
+pub mod RowKinds

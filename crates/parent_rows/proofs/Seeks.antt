@@ -1,5 +1,5 @@
 -- A record looked for along a chain that it belongs to.
-use Rattle.std.proofs.Common.{◌≡◌, ℕ, zero, suc, ◌+◌, ◌-◌, ◌<◌, ◌≤◌, Bool, true, false, cond, eqb, List, [], ◌∷◌, length, drop, Option, Some, None, refl, sym, ◌∙◌, ap, subst, arith, eq-eqb}
+use Rattle.std.proofs.Common.{◌≡◌, ℕ, zero, suc, ◌+◌, ◌-◌, ◌<◌, ◌≤◌, Bool, true, false, cond, eqb, List, [], ◌∷◌, length, drop, Option, Some, None, refl, sym, ◌∙◌, ap, subst, inl, inr, arith, eq-eqb}
 use Rattle.std.specs.List.{slice_get}
 use Rattle.std.proofs.lemmas.Bool.{false≢true, eqb-true, ne_eqb, and_parts, and_from}
 use Rattle.op_model.specs.declared.base.Dataset.{Dataset}
@@ -15,7 +15,8 @@ use Rattle.record_rows.proofs.ImageFacts.{header}
 use Rattle.record_rows.proofs.WalkLemmas.{LeadsTo, Behind, place_of-some, from_here, first_leads, next_leads, next_behind}
 use Rattle.std.proofs.lemmas.Option.{slice_get_within}
 use Rattle.record_rows.proofs.NodeOrder.{ordered_at}
-use Rattle.parent_rows.specs.Steps.{is_node_of}
+use Rattle.parent_rows.specs.Steps.{IsNear, is_node_of}
+use Rattle.parent_rows.proofs.ChainWalks.{AtLast, last_first, last_start}
 use Rattle.parent_rows.proofs.ChunkWalks.{node_passes, node_header, ordered_le}
 
 -- the place of the first record from one on that passes the test
@@ -152,6 +153,19 @@ skipped test rows (suc k) p l f =
     row_at (r ∷ rs) zero m = (r, refl)
     row_at (r ∷ rs) (suc j) m = row_at rs j (omega arith)
 
+-- before a node of the chunk whose id is no greater none has the id
+unmet : (d : Dataset) (b : Base) → IsDataset d → IsBase d b → (log : List Entry) (c id q : ℕ) (m : Node) → HoldsNode d b log q m → m.chunk ≡ c → m.id ≤ id → (j : ℕ) (row : Row) → j < q → slice_get (rows_of d b log) j ≡ Some row
+    → is_node_of c id row ≡ false
+unmet d b valid base log c id q m h e low j row y g = go (is_node_of c id row) refl
+  where
+    go : (t : Bool) → is_node_of c id row ≡ t → t ≡ false
+    go false z = refl
+    go true z =
+        let x = of_node c id row z in
+        let less = ordered_at d b valid base log j q x.0 m y (g ∙ ap (λ r. Some r) x.1) h (x.2 ∙ sym e) in
+        let i : x.0.id ≡ id = x.3 in
+        absurd (omega arith)
+
 -- a walk may leap to any later node of the chunk whose id is no greater
 pub node_leap : (d : Dataset) (b : Base) → IsDataset d → IsBase d b → (log : List Entry) (c id p q : ℕ) (m : Node) → p ≤ q → HoldsNode d b log q m → m.chunk ≡ c → m.id ≤ id → {at : Option ℕ} → at ≡ Some p
     → AtNode (rows_of d b log) c id at → AtNode (rows_of d b log) c id (Some q)
@@ -165,18 +179,40 @@ node_leap d b valid base log c id p q m l h e low f a =
     let to : p + k ≡ q = omega arith in
     let backp : p - 1 + 1 ≡ p = omega arith in
     let backq : q - 1 + 1 ≡ q = omega arith in
-    let skip = skipped (is_node_of c id) rows k p (omega arith) (λ j row x y g. miss j row (omega arith) g) in
+    let skip = skipped (is_node_of c id) rows k p (omega arith) (λ j row x y g. unmet d b valid base log c id q m h e low j row (omega arith) g) in
     let same : place_of (place_from (is_node_of c id) (p - 1 + 1) (drop (p - 1 + 1) rows)) ≡ place_of (place_from (is_node_of c id) (q - 1 + 1) (drop (q - 1 + 1) rows)) =
     ap (λ n. place_of (place_from (is_node_of c id) n (drop n rows))) backp ∙ (ap place_of skip ∙ (ap (λ n. place_of (place_from (is_node_of c id) n (drop n rows))) to ∙ sym (ap (λ n. place_of (place_from (is_node_of c id) n (drop n rows))) backq))) in
     (((omega arith), NodeRow m, h, node_passes c m e), here.1 ∙ same)
-  where
-    miss : (j : ℕ) (row : Row) → j < q → slice_get (rows_of d b log) j ≡ Some row → is_node_of c id row ≡ false
-    miss j row y g = go (is_node_of c id row) refl
-      where
-        go : (t : Bool) → is_node_of c id row ≡ t → t ≡ false
-        go false z = refl
-        go true z =
-            let x = of_node c id row z in
-            let less = ordered_at d b valid base log j q x.0 m y (g ∙ ap (λ r. Some r) x.1) h (x.2 ∙ sym e) in
-            let i : x.0.id ≡ id = x.3 in
-            absurd (omega arith)
+
+-- a walk may start at any node of the chunk whose id is no greater
+node_start : (d : Dataset) (b : Base) → IsDataset d → IsBase d b → (log : List Entry) (c id q : ℕ) (m : Node) → 1 ≤ q → HoldsNode d b log q m → m.chunk ≡ c → m.id ≤ id → AtNode (rows_of d b log) c id (Some q)
+unfolding seek next_place first_place
+node_start d b valid base log c id q m one h e low =
+    let rows = rows_of d b log in
+    let w : q < length rows = slice_get_within rows q (NodeRow m) h in
+    let to : 0 + q ≡ q = omega arith in
+    let back : q - 1 + 1 ≡ q = omega arith in
+    let skip = skipped (is_node_of c id) rows q 0 (omega arith) (λ j row x y g. unmet d b valid base log c id q m h e low j row (omega arith) g) in
+    let same : place_of (place_from (is_node_of c id) 0 rows) ≡ place_of (place_from (is_node_of c id) (q - 1 + 1) (drop (q - 1 + 1) rows)) =
+    ap place_of skip ∙ (ap (λ n. place_of (place_from (is_node_of c id) n (drop n rows))) to ∙ sym (ap (λ n. place_of (place_from (is_node_of c id) n (drop n rows))) back)) in
+    ((one, NodeRow m, h, node_passes c m e), same)
+
+module _ (d : Dataset) (b : Base) (log : List Entry) (words : List ℕ) (i : ParentImage d b log words) where
+  -- the header is no node
+  node_behind : (q : ℕ) (m : Node) → HoldsNode d b log q m → 1 ≤ q
+  node_behind zero m h = let same = sym (header d b log words i) ∙ h in cc
+  node_behind (suc q) m h = omega arith
+
+  -- a walk to an id may start near it
+  pub near_start : (c id : ℕ) {at : Option ℕ} → IsNear (rows_of d b log) c id at → AtNode (rows_of d b log) c id at
+  near_start c id s = elim s [
+    | inl e ↦ node_first d b log words i c id e
+    | inr h ↦ subst (AtNode (rows_of d b log) c id) (sym h.1) (node_start d b i.dataset i.base log c id h.0 h.2 (node_behind h.0 h.2 h.3) h.3 h.4 h.5)
+  ]
+
+  -- and so may a walk to the last node
+  pub near_last : (c id : ℕ) {at : Option ℕ} → IsNear (rows_of d b log) c id at → AtLast (node_in c) (rows_of d b log) at None
+  near_last c id s = elim s [
+    | inl e ↦ last_first d b log words i (node_in c) (node_header c) e
+    | inr h ↦ last_start (node_in c) (rows_of d b log) h.0 (NodeRow h.2) (node_behind h.0 h.2 h.3) h.3 (node_passes c h.2 h.4) h.1
+  ]

@@ -42,6 +42,16 @@ module _ (d : Dataset) (b : Base) (log : List Entry) (words : List ℕ) (i : Par
       )
       go row s t = absurd (false≢true t)
 
+  -- the second word of a supervoxel or a node is its id
+  pub owner_id : (p id : ℕ) → HoldsId d b log p id → (8 * p + 8 ≤ length words) × (id_at words p ≡ id)
+  unfolding has_id told fixed_words id_at
+  owner_id p id h = go h.0 h.1 h.2
+    where
+      go : (row : Row) → Holds d b log p row → has_id id row ≡ true → (8 * p + 8 ≤ length words) × (get_or words (8 * p + 1) 0 ≡ id)
+      go (SupervoxelRow v) s t = (within d b log words i p (SupervoxelRow v) s, told_fixed d b log words i p 1 (SupervoxelRow v) s (omega arith) refl ∙ eqb-true v id t)
+      go (NodeRow n) s t = (within d b log words i p (NodeRow n) s, told_fixed d b log words i p 1 (NodeRow n) s (omega arith) refl ∙ eqb-true n.id id t)
+      go row s t = absurd (false≢true t)
+
   pub next_version_leads : (p : ℕ) (l : Link) → Holds d b log p (LinkRow l) → Leads words p 6 (next_place (version_of l.child) (rows_of d b log) p)
   unfolding told aims
   next_version_leads p l h = (
@@ -102,6 +112,14 @@ module _ (d : Dataset) (b : Base) (log : List Entry) (words : List ℕ) (i : Par
     told_first d b log words i p 0 (ChunkRow c) (node_in c) h (omega arith) refl refl,
   )
 
+  pub chunk_id : (p c : ℕ) → HoldsChunk d b log p c → Tells words p 1 c
+  unfolding told fixed_words
+  chunk_id p c h = (within d b log words i p (ChunkRow c) h, told_fixed d b log words i p 1 (ChunkRow c) h (omega arith) refl)
+
+  pub chunk_key : (p c : ℕ) → HoldsChunk d b log p c → id_at words p ≡ c
+  unfolding id_at
+  chunk_key p c h = (chunk_id p c h).1
+
   pub link_child : (p : ℕ) (l : Link) → Holds d b log p (LinkRow l) → Tells words p 1 l.child
   unfolding told fixed_words
   link_child p l h = (within d b log words i p (LinkRow l) h, told_fixed d b log words i p 1 (LinkRow l) h (omega arith) refl)
@@ -119,7 +137,7 @@ module _ (d : Dataset) (b : Base) (log : List Entry) (words : List ℕ) (i : Par
   node_least p n h = (within d b log words i p (NodeRow n) h, told_fixed d b log words i p 2 (NodeRow n) h (omega arith) refl)
 
   -- the numbers of entries have 32 bits
-  small : (k : ℕ) → k < length log → k < 2 ^ 32
+  pub small : (k : ℕ) → k < length log → k < 2 ^ 32
   small k h = let e = entries_few d b log in let f = few d b log words i in omega arith
 
   pub node_made : (p : ℕ) (n : Node) → HoldsNode d b log p n → Tells words p 3 n.made × (n.made < 2 ^ 32)

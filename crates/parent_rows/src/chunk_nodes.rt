@@ -9,6 +9,7 @@ ghost use Rattle.record_rows.specs.Chains.{node_in};
 ghost use Rattle.record_rows.specs.LogRows.{rows_of};
 ghost use Rattle.record_rows.specs.Readings.{ParentImage, HoldsChunk, HoldsNode, first_place, next_place, last_place};
 
+use crate::near::near_node;
 use crate::runs::leap;
 use pcg_base::Words;
 use row_words::{Spot, pointer};
@@ -32,7 +33,8 @@ pub fn next_node<W: Words>(w: &mut W, node: Spot) -> Option<Spot>
     pointer(w, node, 7)
 }
 
-/// The place of a chunk's last node, which has the greatest id.
+/// The place of a chunk's last node, which has the greatest id. In the top chunk it is found by
+/// halving; in another one each run of nodes that one entry made takes one step.
 pub fn last_node<W: Words>(w: &mut W, chunk: Spot) -> Option<Spot>
     requires chunk { (d : Dataset) × (b : Base) × (log : List Entry) × (c : ℕ) × ParentImage d b log (W.words w.old) × HoldsChunk d b log chunk c }
     ensures same { w.new ≡ w.old }
@@ -40,7 +42,7 @@ pub fn last_node<W: Words>(w: &mut W, chunk: Spot) -> Option<Spot>
     ensures greatest { (d : Dataset) (b : Base) (log : List Entry) (c : ℕ) → ParentImage d b log (W.words w.old) → HoldsChunk d b log chunk c → IfSome result (λ p. (m n : Node) (q : ℕ) → HoldsNode d b log p n → HoldsNode d b log q m → m.chunk ≡ c → m.id ≤ n.id) }
 {
     let mut found = None;
-    let mut at = first_node(w, chunk);
+    let mut at = near_node(w, chunk, u64::MAX);
     while let Some(node) = at {
         let last = leap(w, node, u64::MAX);
         found = Some(last);

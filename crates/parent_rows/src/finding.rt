@@ -11,15 +11,16 @@ ghost use Rattle.record_rows.specs.Sorted.{supervoxel_count};
 ghost use Rattle.record_rows.specs.Walks.{is_chunk};
 ghost use Rattle.parent_rows.specs.Steps.{is_node_of};
 
-use crate::chunk_nodes::{first_node, next_node};
+use crate::chunk_nodes::next_node;
+use crate::near::near_node;
 use crate::runs::{layout, leap};
 use node_ids::NodeId;
 use pcg_base::Words;
 use row_words::{Spot, find_sorted, fixed, id_of, supervoxel};
 
 /// The record of a supervoxel or a node; `None` exactly where no entry of the log knows the id. A
-/// supervoxel is found by halving, and so is the chunk of a node; along the chunk's chain each run of
-/// nodes that one entry made takes one step.
+/// supervoxel is found by halving, and so are the chunk of a node and the entry of a root. Along the
+/// chain of another chunk each run of nodes that one entry made takes one step.
 pub fn find<W: Words>(w: &mut W, id: NodeId) -> Option<Spot>
     requires image { (d : Dataset) × (b : Base) × (log : List Entry) × ParentImage d b log (W.words w.old) }
     ensures same { w.new ≡ w.old }
@@ -61,7 +62,7 @@ fn node_of<W: Words>(w: &mut W, chunk: Spot, id: u64) -> Option<Spot>
     ensures same { w.new ≡ w.old }
     ensures is { (d : Dataset) (b : Base) (log : List Entry) (c : ℕ) → ParentImage d b log (W.words w.old) → HoldsChunk d b log chunk c → result ≡ first_place (is_node_of c id) (rows_of d b log) }
 {
-    let mut at = first_node(w, chunk);
+    let mut at = near_node(w, chunk, id);
     while let Some(spot) = at {
         if id_of(w, spot) > id {
             return None;

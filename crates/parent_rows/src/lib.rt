@@ -15,12 +15,14 @@
 //! - `finding`: the records of supervoxels, chunks and nodes
 //! - `nodes`: what a node's record tells, and its children
 //! - `chunk_nodes`: the nodes of a chunk
+//! - `near`: where a walk along a chunk's nodes may start
 //! - `runs`: steps over the nodes that one entry made in one chunk
 //! - `versions`: the parents of a supervoxel or a node, entry by entry
 #![tactic(auto)]
 
 mod chunk_nodes;
 mod finding;
+mod near;
 mod nodes;
 mod runs;
 mod versions;

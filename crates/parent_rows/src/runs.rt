@@ -5,7 +5,6 @@ ghost use Rattle.std.specs.Prelude.{◌≡◌, ℕ, ◌<◌, ◌≤◌, ◌-◌,
 ghost use Rattle.op_model.specs.declared.base.Dataset.{Dataset};
 ghost use Rattle.op_model.specs.declared.base.Base.{Base};
 ghost use Rattle.op_model.specs.declared.entry.Entry.{Entry};
-ghost use Rattle.record_rows.specs.Inner.{IsInner};
 ghost use Rattle.record_rows.specs.Rows.{Node, Row};
 ghost use Rattle.record_rows.specs.Readings.{Holds, HoldsNode, ParentImage};
 ghost use Rattle.node_ids.specs.Ids.{parts_of};
@@ -56,12 +55,11 @@ fn middle_of(first: Spot, low: Spot, high: Spot) -> Option<Spot>
     }
 }
 
-// whether the record of a node or of a link at a place is that of a node of this chunk, whose id is
-// at most this one
-fn is_of<W: Words>(w: &mut W, spot: Spot, ids: Layout, chunk: u64, id: u64) -> bool
-    requires inner { (d : Dataset) × (b : Base) × (log : List Entry) × (row : Row) × ParentImage d b log (W.words w.old) × Holds d b log spot row × IsInner row }
+/// Whether the record at a place is that of a node of this chunk, whose id is at most this one.
+pub fn is_of<W: Words>(w: &mut W, spot: Spot, ids: Layout, chunk: u64, id: u64) -> bool
+    requires record { (d : Dataset) × (b : Base) × (log : List Entry) × (row : Row) × ParentImage d b log (W.words w.old) × Holds d b log spot row }
     ensures same { w.new ≡ w.old }
-    ensures is { (d : Dataset) (b : Base) (log : List Entry) (row : Row) → ParentImage d b log (W.words w.old) → Holds d b log spot row → IsInner row → ids ≡ d.layout → result ≡ true → (m : Node) × HoldsNode d b log spot m × (m.chunk ≡ chunk) × (m.id ≤ id) }
+    ensures is { (d : Dataset) (b : Base) (log : List Entry) (row : Row) → ParentImage d b log (W.words w.old) → Holds d b log spot row → ids ≡ d.layout → result ≡ true → (m : Node) × HoldsNode d b log spot m × (m.chunk ≡ chunk) × (m.id ≤ id) }
 {
     if kind_of(w, spot) != 4 {
         return false;

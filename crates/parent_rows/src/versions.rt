@@ -1,19 +1,18 @@
 //! The parents of a supervoxel or a node, entry by entry.
 
-ghost use Rattle.std.specs.Prelude.{◌≡◌, ℕ, List};
-ghost use Rattle.std.specs.List.{last_or};
+ghost use Rattle.std.specs.Prelude.{◌≡◌, ℕ, ◌+◌, ◌*◌, ◌≤◌, List, length, true, IfSome};
 ghost use Rattle.op_model.specs.declared.base.Dataset.{Dataset};
 ghost use Rattle.op_model.specs.declared.base.Base.{Base};
 ghost use Rattle.op_model.specs.declared.entry.Entry.{Entry};
-ghost use Rattle.record_rows.specs.Rows.{Link, LinkRow};
+ghost use Rattle.record_rows.specs.Rows.{Row, Link, LinkRow};
 ghost use Rattle.record_rows.specs.Chains.{version_of};
 ghost use Rattle.record_rows.specs.LogRows.{rows_of};
 ghost use Rattle.record_rows.specs.Readings.{ParentImage, Holds, HoldsId, first_place, next_place, last_place};
 ghost use Rattle.record_rows.specs.Versions.{parent_place};
-ghost use Rattle.parent_rows.specs.Steps.{later_parent};
+ghost use Rattle.parent_rows.specs.Steps.{IsLinkOf, MayStart, is_version};
 
 use pcg_base::Words;
-use row_words::{Spot, fixed, pointer};
+use row_words::{Spot, fixed, id_of, kind_of, pointer};
 
 /// The place of the parent of the supervoxel or node at a place, as the entries below the prefix
 /// left it; `None` where none of them gave it a parent.
@@ -22,13 +21,10 @@ pub fn parent_at<W: Words>(w: &mut W, spot: Spot, prefix: u32) -> Option<Spot>
     ensures same { w.new ≡ w.old }
     ensures is { (d : Dataset) (b : Base) (log : List Entry) (id : ℕ) → ParentImage d b log (W.words w.old) → HoldsId d b log spot id → result ≡ parent_place (rows_of d b log) id prefix }
 {
-    let mut found = None;
-    let mut at = first_version(w, spot);
-    while let Some(link) = at {
-        found = later(w, link, prefix, found);
-        at = next_version(w, link);
-    }
-    found
+    let Some(link) = newest_below(w, spot, prefix as u64) else {
+        return None;
+    };
+    pointer(w, link, 4)
 }
 
 /// The place of the newest link of the supervoxel or node at a place; `None` where it has none.
@@ -37,13 +33,72 @@ pub fn last_version<W: Words>(w: &mut W, spot: Spot) -> Option<Spot>
     ensures same { w.new ≡ w.old }
     ensures is { (d : Dataset) (b : Base) (log : List Entry) (id : ℕ) → ParentImage d b log (W.words w.old) → HoldsId d b log spot id → result ≡ last_place (version_of id) (rows_of d b log) }
 {
+    newest_below(w, spot, 4294967296)
+}
+
+// the newest of the links of the supervoxel or node at a place whose entries are below this one; the
+// links stand in the order of their entries, so the first one that is too new ends the walk
+fn newest_below<W: Words>(w: &mut W, spot: Spot, below: u64) -> Option<Spot>
+    requires owner { (d : Dataset) × (b : Base) × (log : List Entry) × (id : ℕ) × ParentImage d b log (W.words w.old) × HoldsId d b log spot id }
+    ensures same { w.new ≡ w.old }
+    ensures is { (d : Dataset) (b : Base) (log : List Entry) (id : ℕ) → ParentImage d b log (W.words w.old) → HoldsId d b log spot id → result ≡ last_place (is_version id below) (rows_of d b log) }
+{
     let mut found = None;
-    let mut at = first_version(w, spot);
+    let mut at = start(w, spot, below);
     while let Some(link) = at {
+        if fixed(w, link, 3) >= below {
+            return found;
+        }
         found = at;
         at = next_version(w, link);
     }
     found
+}
+
+// where the walk to the newest link below this entry may start: at the hint that is kept for the
+// record, if that is one of its links below the entry, else at its first link
+fn start<W: Words>(w: &mut W, spot: Spot, below: u64) -> Option<Spot>
+    requires owner { (d : Dataset) × (b : Base) × (log : List Entry) × (id : ℕ) × ParentImage d b log (W.words w.old) × HoldsId d b log spot id }
+    ensures same { w.new ≡ w.old }
+    ensures is { (d : Dataset) (b : Base) (log : List Entry) (id : ℕ) → ParentImage d b log (W.words w.old) → HoldsId d b log spot id → MayStart (version_of id) (is_version id below) (rows_of d b log) result }
+{
+    let Some(link) = hinted(w, spot, below) else {
+        return first_version(w, spot);
+    };
+    Some(link)
+}
+
+// the hint that is kept for the record at a place, if it is one of its links below this entry
+fn hinted<W: Words>(w: &mut W, spot: Spot, below: u64) -> Option<Spot>
+    requires owner { (d : Dataset) × (b : Base) × (log : List Entry) × (id : ℕ) × ParentImage d b log (W.words w.old) × HoldsId d b log spot id }
+    ensures same { w.new ≡ w.old }
+    ensures is { (d : Dataset) (b : Base) (log : List Entry) (id : ℕ) → ParentImage d b log (W.words w.old) → HoldsId d b log spot id → IfSome result (λ p. (row : Row) × Holds d b log p row × (is_version id below row ≡ true)) }
+{
+    let place = w.hint(spot.0 as u64);
+    if place >= w.len() / 8 {
+        return None;
+    }
+    let link = Spot(place as u32);
+    let id = id_of(w, spot);
+    if is_link(w, link, id, below) {
+        Some(link)
+    } else {
+        None
+    }
+}
+
+// whether a record is that of a link of this child whose entry is below this one
+fn is_link<W: Words>(w: &mut W, link: Spot, id: u64, below: u64) -> bool
+    requires within { 8 * link + 8 ≤ length (W.words w.old) }
+    ensures same { w.new ≡ w.old }
+    ensures is { result ≡ true → IsLinkOf (W.words w.old) link id below }
+{
+    if kind_of(w, link) != 5 {
+        return false;
+    }
+    let child = fixed(w, link, 1);
+    let entry = fixed(w, link, 3);
+    child == id && entry < below
 }
 
 // the first link of the supervoxel or node at a place
@@ -62,17 +117,4 @@ fn next_version<W: Words>(w: &mut W, link: Spot) -> Option<Spot>
     ensures is { (d : Dataset) (b : Base) (log : List Entry) (l : Link) → ParentImage d b log (W.words w.old) → Holds d b log link (LinkRow l) → result ≡ next_place (version_of l.child) (rows_of d b log) link }
 {
     pointer(w, link, 6)
-}
-
-// the node that a link leads to, if its entry is below the prefix, else what was found before
-fn later<W: Words>(w: &mut W, link: Spot, prefix: u32, found: Option<Spot>) -> Option<Spot>
-    requires link { (d : Dataset) × (b : Base) × (log : List Entry) × (l : Link) × ParentImage d b log (W.words w.old) × Holds d b log link (LinkRow l) }
-    ensures same { w.new ≡ w.old }
-    ensures is { (d : Dataset) (b : Base) (log : List Entry) (l : Link) → ParentImage d b log (W.words w.old) → Holds d b log link (LinkRow l) → result ≡ later_parent (rows_of d b log) l prefix found }
-{
-    if fixed(w, link, 3) < prefix as u64 {
-        pointer(w, link, 4)
-    } else {
-        found
-    }
 }

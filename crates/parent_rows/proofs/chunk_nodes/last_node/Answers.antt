@@ -3,14 +3,15 @@ use Rattle.record_rows.specs.Rows.{NodeRow}
 use Rattle.record_rows.specs.Chains.{node_in}
 use Rattle.record_rows.specs.LogRows.{rows_of}
 use Rattle.record_rows.specs.Readings.{next_place}
-use Rattle.parent_rows.proofs.ChainWalks.{image_kept, leap_falls, last_first, last_leap, last_end}
-use Rattle.parent_rows.proofs.ChunkWalks.{chunk_node, node_header, node_passes, node_most, greatest_last}
+use Rattle.parent_rows.proofs.ChainWalks.{image_kept, leap_falls, last_leap, last_end}
+use Rattle.parent_rows.proofs.Seeks.{near_last}
+use Rattle.parent_rows.proofs.ChunkWalks.{chunk_node, node_passes, node_most, greatest_last}
 use Rattle.parent_rows.proofs.chunk_nodes.last_node.Goals as goal
 
 pub loop-at-init : goal.loop-at-init
 loop-at-init g c = (
-  c.first_node-at.ensures.same,
-  λ d b log x i h. last_first d b log _ i (node_in x) (node_header x) (c.first_node-at.ensures.is d b log x i h),
+  c.near_node-at.ensures.same,
+  λ d b log x i h. near_last d b log _ i x _ (c.near_node-at.ensures.is d b log x i h),
 )
 
 pub leap-last-requires : goal.leap-last-requires

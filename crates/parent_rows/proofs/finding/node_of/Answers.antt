@@ -5,13 +5,13 @@ use Rattle.record_rows.specs.LogRows.{rows_of}
 use Rattle.parent_rows.proofs.ChainWalks.{image_kept, leap_falls}
 use Rattle.parent_rows.proofs.ChunkWalks.{chunk_node}
 use Rattle.parent_rows.proofs.Told.{id_found, node_id}
-use Rattle.parent_rows.proofs.Seeks.{node_first, node_leap, node_step, node_met, node_passed, node_end}
+use Rattle.parent_rows.proofs.Seeks.{near_start, node_leap, node_step, node_met, node_passed, node_end}
 use Rattle.parent_rows.proofs.finding.node_of.Goals as goal
 
 pub loop-at-init : goal.loop-at-init
 loop-at-init g c = (
-  c.first_node-at.ensures.same,
-  λ d b log x i h. node_first d b log _ i x c.args.id (c.first_node-at.ensures.is d b log x i h),
+  c.near_node-at.ensures.same,
+  λ d b log x i h. near_start d b log _ i x c.args.id (c.near_node-at.ensures.is d b log x i h),
 )
 
 pub id_of-requires : goal.id_of-requires

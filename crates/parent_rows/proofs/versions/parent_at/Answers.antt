@@ -1,57 +1,26 @@
-use Rattle.std.proofs.Common.{◌∙◌}
-use Rattle.record_rows.specs.Rows.{LinkRow}
-use Rattle.record_rows.specs.Chains.{version_of}
+use Rattle.std.proofs.Common.{◌∙◌, sym}
 use Rattle.record_rows.specs.LogRows.{rows_of}
-use Rattle.parent_rows.proofs.ChainWalks.{image_kept, walk_falls}
-use Rattle.parent_rows.proofs.VersionWalks.{version_link, parent_first, parent_step, parent_end}
+use Rattle.parent_rows.proofs.ChainWalks.{image_kept}
+use Rattle.parent_rows.proofs.Told.{parent_leads}
+use Rattle.parent_rows.proofs.VersionWalks.{no_parent, link_parent, parent_stands}
 use Rattle.parent_rows.proofs.versions.parent_at.Goals as goal
 
-pub loop-at-init : goal.loop-at-init
-loop-at-init g c = (
-  c.first_version-at.ensures.same,
-  λ d b log id i h. parent_first d b log _ i id c.args.prefix (c.first_version-at.ensures.is d b log id i h),
-)
+pub returns-in_default-clause-is : goal.returns-in_default-clause-is
+returns-in_default-clause-is g c = λ d b log id i h. no_parent (rows_of d b log) id c.args.prefix (c.newest_below.ensures.is d b log id i h) c.in_default.not-Some
 
-pub later-found-requires : goal.later-found-requires
-later-found-requires g c =
+pub pointer-requires-clause-within : goal.pointer-requires-clause-within
+pointer-requires-clause-within g c =
     let r = c.requires.owner in
-    let inv = c.loop-at.invariant in
-    let at = inv.1 r.0 r.1 r.2 r.3 r.4 r.5 in
-    let l = version_link (rows_of r.0 r.1 r.2) r.3 c.in-Some.link c.in-Some.is at.0 in
-    record { link = (r.0, r.1, r.2, l.0, image_kept g.W.Words.words r.0 r.1 r.2 inv.0 r.4, l.1) }
+    let l = link_parent (rows_of r.0 r.1 r.2) r.3 c.args.prefix c.in-Some.link (c.newest_below.ensures.is r.0 r.1 r.2 r.3 r.4 r.5) c.in-Some.is in
+    (parent_leads r.0 r.1 r.2 _ (image_kept g.W.Words.words r.0 r.1 r.2 c.newest_below.ensures.same r.4) c.in-Some.link l.0 l.1).0
 
-pub next_version-at-requires : goal.next_version-at-requires
-next_version-at-requires g c =
+pub pointer-requires-clause-place : goal.pointer-requires-clause-place
+pointer-requires-clause-place g c =
     let r = c.requires.owner in
-    let inv = c.loop-at.invariant in
-    let at = inv.1 r.0 r.1 r.2 r.3 r.4 r.5 in
-    let l = version_link (rows_of r.0 r.1 r.2) r.3 c.in-Some.link c.in-Some.is at.0 in
-    record { link = (r.0, r.1, r.2, l.0, image_kept g.W.Words.words r.0 r.1 r.2 (c.later-found.ensures.same ∙ inv.0) r.4, l.1) }
-
-pub loop-at-smaller : goal.loop-at-smaller
-loop-at-smaller g c =
-    let r = c.requires.owner in
-    let inv = c.loop-at.invariant in
-    let at = inv.1 r.0 r.1 r.2 r.3 r.4 r.5 in
-    let l = version_link (rows_of r.0 r.1 r.2) r.3 c.in-Some.link c.in-Some.is at.0 in
-    walk_falls r.0 r.1 r.2 _ r.4 c.in-Some.link (LinkRow l.0) l.1 (version_of l.0.child) c.in-Some.is
-    (c.next_version-at.ensures.is r.0 r.1 r.2 l.0 (image_kept g.W.Words.words r.0 r.1 r.2 (c.later-found.ensures.same ∙ inv.0) r.4) l.1)
-
-pub loop-at-preserved : goal.loop-at-preserved
-loop-at-preserved g c = (
-  c.next_version-at.ensures.same ∙ (c.later-found.ensures.same ∙ c.loop-at.invariant.0),
-  λ d b log id i h.
-      let inv = c.loop-at.invariant in
-      let at = inv.1 d b log id i h in
-      let l = version_link (rows_of d b log) id c.in-Some.link c.in-Some.is at.0 in
-      parent_step d b log _ i id c.args.prefix c.in-Some.link l.0 c.loop-at.found l.1 l.2 c.in-Some.is
-      (c.next_version-at.ensures.is d b log l.0 (image_kept g.W.Words.words d b log (c.later-found.ensures.same ∙ inv.0) i) l.1)
-      (c.later-found.ensures.is d b log l.0 (image_kept g.W.Words.words d b log inv.0 i) l.1)
-      at,
-)
-
-pub returns-clause-same : goal.returns-clause-same
-returns-clause-same g c = c.loop-at.invariant.0
+    let l = link_parent (rows_of r.0 r.1 r.2) r.3 c.args.prefix c.in-Some.link (c.newest_below.ensures.is r.0 r.1 r.2 r.3 r.4 r.5) c.in-Some.is in
+    (parent_leads r.0 r.1 r.2 _ (image_kept g.W.Words.words r.0 r.1 r.2 c.newest_below.ensures.same r.4) c.in-Some.link l.0 l.1).1
 
 pub returns-clause-is : goal.returns-clause-is
-returns-clause-is g c = λ d b log id i h. parent_end (rows_of d b log) id c.args.prefix c.loop-at.at c.loop-at.found c.in_default.not-Some (c.loop-at.invariant.1 d b log id i h)
+returns-clause-is g c = λ d b log id i h.
+    let l = link_parent (rows_of d b log) id c.args.prefix c.in-Some.link (c.newest_below.ensures.is d b log id i h) c.in-Some.is in
+    c.pointer.ensures.is ∙ ((parent_leads d b log _ (image_kept g.W.Words.words d b log c.newest_below.ensures.same i) c.in-Some.link l.0 l.1).2 ∙ (parent_stands d b log _ i c.in-Some.link l.0 l.1 ∙ sym l.2))
