@@ -9,6 +9,8 @@
 //!   that don't open
 //! - `device_tests`: each single call of a device fails in turn, over devices that take a byte a call
 //!   and over ones that take all at once
+//! - `session_tests`: the lines of a client's stream, given one by one from reads of several sizes, and
+//!   a stream that breaks off
 //! - `samples`, `calls`: two tables, requests, and what a call makes of them
 //! - `shut_place`: a place that opens nothing for writing
 #![tactic(auto)]
@@ -23,6 +25,8 @@ mod outside_tests;
 mod reply_tests;
 #[cfg(test)]
 mod samples;
+#[cfg(test)]
+mod session_tests;
 #[cfg(test)]
 mod shut_place;
 #[cfg(test)]
