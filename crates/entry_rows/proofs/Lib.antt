@@ -1,0 +1,10 @@
+mod EdgeSteps
+mod NodeSteps
+mod LinkSteps
+mod RetireLemmas
+mod ItemSteps
+mod ChangeSteps
+mod PlaceLists
+mod Begins
+mod Behind
+mod Phases

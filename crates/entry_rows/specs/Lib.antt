@@ -1,0 +1,4 @@
+pub mod States
+pub mod Retiring
+pub mod Changes
+pub mod Listed

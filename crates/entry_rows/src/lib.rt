@@ -1,0 +1,36 @@
+//! The draft of one more entry, from lists of what it changes, retires and makes.
+//!
+//! The promise: [`draft_entry`] gives a draft with which the words of a log become those of the log
+//! with the entry in front. The lists tell each record by the places of others, and where chains end
+//! in the records that stand. The draft fills empty pointers of those, each once.
+//!
+//! - `changes`: the changes
+//! - `drafting`: all records, one kind behind the other
+//! - `edges`: the edges
+//! - `items`: the ids of the request
+//! - `laws`: which nodes an entry retires
+//! - `links`: the links
+//! - `lists`: the records by their places
+//! - `nodes`: the nodes
+//! - `owners`: the children of new nodes
+//! - `putting`: edges, nodes and links from the lists
+#![tactic(auto)]
+
+mod changes;
+mod drafting;
+mod edges;
+mod items;
+pub mod laws;
+mod links;
+mod lists;
+mod nodes;
+mod owners;
+mod putting;
+
+pub use changes::{EntryChange, put_changes};
+pub use drafting::draft_entry;
+pub use edges::put_edges;
+pub use items::{EntryItem, put_items};
+pub use links::put_links;
+pub use lists::{EntryHead, EntryLists};
+pub use nodes::put_nodes;
