@@ -1,6 +1,5 @@
 -- Replies to single lines, over the log of the first entry.
-use Rattle.std.proofs.Common.{◌≡◌, ℕ, List, [], ◌∷◌, length, Option, Some, None, Result, Ok, Err, refl, sym, ◌∙◌, ap, subst, inl, inr, arith}
-use Rattle.std.specs.Prelude.{◌⊎◌}
+use Rattle.std.proofs.Common.{◌≡◌, ℕ, List, [], ◌∷◌, Option, Some, None, Result, Ok, Err, refl, sym, ◌∙◌, ap, subst, inl, inr, arith}
 use Rattle.op_model.specs.declared.base.Dataset.{Dataset}
 use Rattle.op_model.specs.declared.base.Base.{Base}
 use Rattle.op_model.specs.declared.entry.Entry.{Entry}
@@ -15,7 +14,7 @@ use Rattle.op_model.specs.declared.reply.Reply.{Reply}
 use Rattle.op_model.specs.declared.reply.Reply.TheVariants as reply
 use Rattle.op_model.specs.Refusals.{refuse_read, refused}
 use Rattle.op_model.specs.Answers.{answer}
-use Rattle.op_model.specs.Transcript.{Asks, Faulty, Unbuilt, Line, read_reply, log_at}
+use Rattle.op_model.specs.Transcript.{Asks, Unbuilt, Line, read_reply, log_at}
 use Rattle.request_lines.specs.Asking.{Gives, asked}
 use Rattle.timestamp_reader.specs.Replies.{IsAnswer, reply_to}
 use Rattle.pcg_serve.specs.Sessions.{Answers, RepliesTo, asked_line, line_of}

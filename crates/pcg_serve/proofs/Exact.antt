@@ -23,12 +23,10 @@ use Rattle.table_ingest.proofs.BaseLemmas.{base_or_fault, one_base as bases_are_
 use Rattle.pcg_serve.specs.declared.stops.FileName.TheVariants as files
 use Rattle.pcg_serve.specs.declared.stops.Stop.{Stop}
 use Rattle.pcg_serve.specs.declared.stops.Stop.TheVariants as stops
-use Rattle.pcg_serve.specs.declared.summary.Fault.{Fault}
-use Rattle.pcg_serve.specs.declared.summary.Fault.TheVariants as faults
 use Rattle.pcg_serve.specs.Statuses.{status_of}
 use Rattle.pcg_serve.specs.Jobs.{HasBase, HasTable, TablesAre, dataset_of, table_limit}
 use Rattle.pcg_serve.specs.Causes.{HasFault, HasLong, HasBuiltBase, HasFullBase, HasLongTable, IsDue, IsFullSo, IsUnbuilt, Seen, StatusSo, StopCause, StopsOnly, TablesStop, has_one_client}
-use Rattle.pcg_serve.specs.Headline.{CamePast, IsQuiet, JobOutcome, OnlyClientEnds, Outcome, fault_status}
+use Rattle.pcg_serve.specs.Headline.{CamePast, IsQuiet, JobOutcome, OnlyClientEnds, Outcome, fault_of, fault_status}
 
 -- the status is the one that is asked for, or that of a fault or of want of memory
 abbrev Ends : ℕ → ℕ → Type 0
@@ -148,37 +146,34 @@ stopped m m' left job old new stop (inr (inl (one, t, kept))) s d = tables_stopp
 stopped m m' left job old new stop (inr (inr (one, base, read, t))) s d = client_stopped m m' left job job.stems old new stop base t s d
 
 -- the requests of a client whose session ended in no fault weren't too many
-not_many : (d : Dataset) (b : Base) (log : List Entry) (m : Files) (files' : Option Files) (left : List ℕ → List ℕ) (stems : List (List ℕ)) (lines refused : ℕ)
-    → OnlyClientEnds d b log (Some m) files' left stems None lines refused → HasLong (Some m) stems → ⊥
-not_many d b log m files' left [] lines refused h long = absurd h
-not_many d b log m None left (stem ∷ stems) lines refused h long = absurd h
-not_many d b log m (Some after) left (stem ∷ stems) lines refused h long =
-    let whole = h.whole refl in
+not_many : (d : Dataset) (b : Base) (log : List Entry) (m : Files) (files' : Option Files) (left : List ℕ → List ℕ) (stems : List (List ℕ)) (failed : Bool) (lines refused : ℕ)
+    → OnlyClientEnds d b log (Some m) files' left stems false failed lines refused → HasLong (Some m) stems → ⊥
+not_many d b log m files' left [] failed lines refused h long = absurd h
+not_many d b log m None left (stem ∷ stems) failed lines refused h long = absurd h
+not_many d b log m (Some after) left (stem ∷ stems) failed lines refused h long =
     let same : long.0 ≡ h.taken =
-    one_file m (request_file stem) long.0 (h.taken ++ left (request_file stem)) long.1 h.stream ∙ ap (λ z. h.taken ++ z) whole.1 ∙ append-nil h.taken in
+    one_file m (request_file stem) long.0 (h.taken ++ left (request_file stem)) long.1 h.stream ∙ ap (λ z. h.taken ++ z) h.part.1 ∙ append-nil h.taken in
     omega (arith, ap length same, h.size, long.2)
 
 not_due : (m : Files) (files' : Option Files) (left : List ℕ → List ℕ) (job : RehearseJob) (old new : Seen) (printed : List ℕ) (ended : ℕ) (p : CamePast (Some m) files' left job old new printed ended)
-    → p.fault ≡ None → (s : ℕ) → IsDue (Some m) job s → ⊥
+    → p.broken ≡ false → (s : ℕ) → IsDue (Some m) job s → ⊥
 not_due m files' left job old new printed ended p none s (inl (sole, inl (e, bad))) = no_fault m job p.base bad.0 bad.1 bad.2 p.has_base bad.3
 not_due m files' left job old new printed ended p none s (inl (sole, inr (inl (e, long)))) = none_long m job p.has_base.0 p.has_base.1 p.has_base.2 long
 not_due m files' left job old new printed ended p none s (inl (sole, inr (inr (e, full)))) = not_full m job p.base p.has_base p.fits full
 not_due m files' left job old new printed ended p none s (inr (e, inl many)) = both (has_one_client job) p.only many
 not_due m files' left job old new printed ended p none s (inr (e, inr long)) =
-    let F : Option Fault → Type 0 = λ f. OnlyClientEnds (dataset_of job) p.base p.log (Some m) files' left job.stems f p.lines p.refused in
-    not_many (dataset_of job) p.base p.log m files' left job.stems p.lines p.refused (subst F none p.client) long.1
+    let F : Bool → Type 0 = λ x. OnlyClientEnds (dataset_of job) p.base p.log (Some m) files' left job.stems x p.failed p.lines p.refused in
+    not_many (dataset_of job) p.base p.log m files' left job.stems p.failed p.lines p.refused (subst F none p.client) long.1
 
 past : (m : Files) (files' : Option Files) (left : List ℕ → List ℕ) (job : RehearseJob) (old new : Seen) (printed : List ℕ) (ended status : ℕ) (p : CamePast (Some m) files' left job old new printed ended)
     → status ≡ ended → (s : ℕ) → IsDue (Some m) job s → Ends status s
-past m files' left job old new printed ended status p e s d = go p.fault refl
+unfolding fault_of
+past m files' left job old new printed ended status p e s d = go p.failed p.broken refl p.status
   where
-    is : (f : Option Fault) → p.fault ≡ f → status ≡ fault_status f
-    is f same = e ∙ p.status ∙ ap fault_status same
-
-    go : (f : Option Fault) → p.fault ≡ f → Ends status s
-    go None same = absurd (not_due m files' left job old new printed ended p same s d)
-    go (Some faults.ReadFault) same = inr (inl (is (Some faults.ReadFault) same))
-    go (Some faults.WriteFault) same = inr (inr (inl (is (Some faults.WriteFault) same)))
+    go : (failed broken : Bool) → p.broken ≡ broken → ended ≡ fault_status (fault_of failed broken) → Ends status s
+    go true broken same is = inr (inr (inl (e ∙ is)))
+    go false true same is = inr (inl (e ∙ is))
+    go false false same is = absurd (not_due m files' left job old new printed ended p same s d)
 
 -- the same of a call that came past its sessions
 pub due_past : (files files' : Option Files) (left : List ℕ → List ℕ) (job : RehearseJob) (old new : Seen) (printed : List ℕ) (outs outs' ended status : ℕ)

@@ -1,5 +1,5 @@
 -- One history behind what was printed and answered.
-use Rattle.std.proofs.Common.{◌≡◌, ◌≤◌, ℕ, ◌+◌, ◌-◌, true, List, [], ◌∷◌, ◌++◌, length, cond, Option, Some, None, sym, ◌∙◌, ap, subst, arith, inl, inr, add-zero, count_by}
+use Rattle.std.proofs.Common.{◌≡◌, ◌≤◌, ℕ, ◌-◌, Bool, true, List, [], ◌∷◌, ◌++◌, length, cond, Option, Some, None, sym, ◌∙◌, ap, subst, arith}
 use Rattle.std.specs.Prelude.{◌↔◌, IsTrue}
 use Rattle.std.proofs.lemmas.Bool.{le-leb}
 use Rattle.std.specs.Io.KnownBytes.{Appends}
@@ -8,32 +8,32 @@ use Rattle.graph_model.specs.Components.{Joined as JoinedBy}
 use Rattle.op_model.specs.declared.base.Dataset.{Dataset}
 use Rattle.op_model.specs.declared.base.Base.{Base}
 use Rattle.op_model.specs.declared.entry.Entry.{Entry}
-use Rattle.op_model.specs.declared.reply.Reply.{Reply}
 use Rattle.op_model.specs.Edges.{linked}
-use Rattle.op_model.specs.Labels.{edges, root}
+use Rattle.op_model.specs.Labels.{Joined, edges, node, root}
 use Rattle.op_model.specs.Answers.{leaves}
 use Rattle.op_model.specs.Records.{records}
 use Rattle.op_model.specs.Refusals.{first_at, prefix_at}
 use Rattle.op_model.specs.Legal.{Legal}
+use Rattle.op_model.proofs.HistoryLemmas.{node_stays}
 use Rattle.op_model.proofs.RootLemmas.{roots_joined}
 use Rattle.pcg_serve.proofs.Leaves.{leaf_only, leaf_has}
 use Rattle.pcg_serve.proofs.Causing.{caused}
+use Rattle.pcg_serve.proofs.Transcribing.{client_of}
 use Rattle.hierarchy_build.specs.declared.errors.BuildError.{BuildError}
 use Rattle.hierarchy_build.specs.Built.{IsFull}
 use Rattle.request_lines.specs.Texts.{text_of_entry}
+use Rattle.pcg_base.specs.declared.clock.Ticks.{Ticks}
 use Rattle.pcg_base.specs.Told.{Files, KeepsFiles}
 use Rattle.pcg_words.specs.declared.job.RehearseJob.{RehearseJob}
 use Rattle.pcg_words.specs.Job.{request_file}
-use Rattle.pcg_serve.specs.declared.summary.Fault.{Fault}
+use Rattle.pcg_serve.specs.declared.client.Ended.{Ended}
 use Rattle.pcg_serve.specs.Causes.{Seen, IsLater, TablesRead, has_one_client}
 use Rattle.pcg_serve.specs.declared.ingest.Ingest.{Ingest}
-use Rattle.pcg_serve.specs.declared.session.Session.{Session}
 use Rattle.pcg_serve.specs.declared.summary.Summary.{Summary}
 use Rattle.pcg_serve.specs.Ingests.{IsIngest, log_of}
-use Rattle.pcg_serve.specs.Jobs.{HasBase, dataset_of}
-use Rattle.pcg_serve.specs.Sessions.{refuses}
+use Rattle.pcg_serve.specs.Jobs.{HasBase, clock_time, dataset_of}
 use Rattle.pcg_serve.specs.Texts.{summary_line, summary_text}
-use Rattle.pcg_serve.specs.Headline.{log_text, live_roots, reply_count, refusal_count, answered, RootsAreJoined, LeavesAreJoined, History, DoneAt, IsDone, ClientDone, ClientDoneAt, ClientEndAt, OnlyClientEnds, CamePast, FaultCause, faults_of, fault_status}
+use Rattle.pcg_serve.specs.Headline.{log_text, live_roots, Clocked, EntriesOwned, RootsAreJoined, LeavesAreJoined, IdsStay, DoneAt, IsDone, ClientCause, ClientEndAt, OnlyClientEnds, CamePast, Sums, fault_of, faults_of}
 
 legal_of : (i : Ingest) → IsIngest i → Legal i.dataset i.base (log_of i)
 legal_of i ok = ok.legal
@@ -57,99 +57,71 @@ leaves_of i ok = λ t v w early late hv.
       (λ k. leaf_has i.dataset i.base i.entry v w ok.entry hv k.0 (sym ((joined w k.0).1 k.1))),
     )
 
--- what is printed of a log of one entry and one client's replies
-text_of : (d : Dataset) (b : Base) (e : Entry) (stem : List ℕ) (rs : List Reply) (s : Summary) → s.accepted ≡ 0 → s.clients ≡ 1 → s.entries ≡ 1 → s.faults.items ≡ [] → s.lines ≡ length rs
-    → s.records ≡ records d b (e ∷ []) → s.refused ≡ count_by refuses rs → s.roots ≡ length e.made → s.status ≡ 0
-    → text_of_entry e ++ summary_text s ≡ log_text (e ∷ [])
-    ++ summary_line (length (e ∷ []) - 1) (length (stem ∷ [])) (length (e ∷ [])) [] (reply_count (rs ∷ [])) (records d b (e ∷ [])) (refusal_count (rs ∷ [])) (length (live_roots (e ∷ []))) 0
-unfolding log_text live_roots reply_count refusal_count
-text_of d b e stem rs s h0 h1 h2 h3 h4 h5 h6 h7 h8 =
-    ap (λ t. text_of_entry e ++ t)
-    (ap (λ n. summary_line n s.clients s.entries s.faults.items s.lines s.records s.refused s.roots s.status) h0
-    ∙ ap (λ n. summary_line 0 n s.entries s.faults.items s.lines s.records s.refused s.roots s.status) h1
-    ∙ ap (λ n. summary_line 0 1 n s.faults.items s.lines s.records s.refused s.roots s.status) h2
-    ∙ ap (λ fs. summary_line 0 1 1 fs s.lines s.records s.refused s.roots s.status) h3
-    ∙ ap (λ n. summary_line 0 1 1 [] n s.records s.refused s.roots s.status) (h4 ∙ sym (add-zero (length rs)))
-    ∙ ap (λ n. summary_line 0 1 1 [] (length rs + 0) n s.refused s.roots s.status) h5
-    ∙ ap (λ n. summary_line 0 1 1 [] (length rs + 0) (records d b (e ∷ [])) n s.roots s.status) (h6 ∙ sym (add-zero (count_by refuses rs)))
-    ∙ ap (λ n. summary_line 0 1 1 [] (length rs + 0) (records d b (e ∷ [])) (count_by refuses rs + 0) n s.status) h7
-    ∙ ap (λ n. summary_line 0 1 1 [] (length rs + 0) (records d b (e ∷ [])) (count_by refuses rs + 0) (length e.made) n) h8)
+-- a log of one entry has one state
+ids_of : (i : Ingest) → IsIngest i → IdsStay i.dataset i.base (log_of i)
+ids_of i ok = λ s t u layer v w early mid late end hl hv hw same.
+    let at_s = prefix_of i.entry s early in
+    let at_t = prefix_of i.entry t (omega (arith, early, mid)) in
+    let at_u = prefix_of i.entry u (omega (arith, early, mid, late)) in
+    let now = sym (ap (λ x. node i.dataset i.base x layer v) at_s) ∙ same ∙ ap (λ x. node i.dataset i.base x layer w) at_u in
+    let stays = node_stays i.dataset i.base [] [] i.entry [] layer v w ok.dataset.layout (legal_of i ok) hl hv hw now in
+    let J : List Entry → Type 0 = λ x. Joined i.dataset i.base x layer v w in
+    (ap (λ x. node i.dataset i.base x layer v) (at_t ∙ sym at_s), subst J (sym at_u) stays.1)
 
-history_of : (i : Ingest) (stem : List ℕ) (before after : Files) (s : Session) (summary : Summary) → IsIngest i → ClientDone i stem before after s
-    → summary.accepted ≡ 0 → summary.clients ≡ 1 → summary.entries ≡ 1 → summary.faults.items ≡ [] → summary.lines ≡ s.lines → summary.records ≡ i.records
-    → summary.refused ≡ s.refused → summary.roots ≡ length i.entry.made → summary.status ≡ 0
-    → History i.dataset i.base before after (stem ∷ []) (text_of_entry i.entry ++ summary_text summary)
-unfolding answered
-history_of i stem before after s summary ok c h0 h1 h2 h3 h4 h5 h6 h7 h8 = record {
-  log = log_of i;
-  legal = legal_of i ok;
-  replies = c.written ∷ [];
-  served = (c.served, tt);
-  files = c.files;
-  roots = roots_of i ok;
-  leaves = leaves_of i ok;
-  text = text_of i.dataset i.base i.entry stem c.written summary h0 h1 h2 h3 (h4 ∙ c.count) (h5 ∙ ok.records) (h6 ∙ c.noes) h7 h8;
-}
+-- and its entry is of no client
+owned_of : (i : Ingest) (clients : ℕ) → IsIngest i → EntriesOwned clients (log_of i)
+owned_of i clients ok = ap (λ (e : Entry). e.client) ok.entry ∙ client_of i.dataset i.base i.entry.at
 
-pub done_at : (job : RehearseJob) (i : Ingest) (stem : List ℕ) (f0 f1 f2 : Option Files) (s : Session) (summary : Summary) → IsIngest i → i.dataset ≡ dataset_of job
-    → HasBase f0 job i.base → KeepsFiles f0 f1 → ClientDoneAt i stem f1 f2 s → job.stems ≡ stem ∷ []
-    → summary.accepted ≡ 0 → summary.clients ≡ 1 → summary.entries ≡ 1 → summary.faults.items ≡ [] → summary.lines ≡ s.lines → summary.records ≡ i.records
-    → summary.refused ≡ s.refused → summary.roots ≡ length i.entry.made → summary.status ≡ 0
-    → DoneAt job f0 f2 (text_of_entry i.entry ++ summary_text summary)
-done_at job i stem None f1 f2 s summary ok made base kept c one h0 h1 h2 h3 h4 h5 h6 h7 h8 = tt
-done_at job i stem (Some m) f1 None s summary ok made base kept c one h0 h1 h2 h3 h4 h5 h6 h7 h8 =
-    let C : Option Files → Type 0 = λ f. ClientDoneAt i stem f None s in
-    absurd (subst C kept c)
-done_at job i stem (Some m) f1 (Some m') s summary ok made base kept c one h0 h1 h2 h3 h4 h5 h6 h7 h8 =
-    let C : Option Files → Type 0 = λ f. ClientDoneAt i stem f (Some m') s in
-    let S : List (List ℕ) → Type 0 = λ stems. History i.dataset i.base m m' stems (text_of_entry i.entry ++ summary_text summary) in
-    let D : Dataset → Type 0 = λ d. History d i.base m m' job.stems (text_of_entry i.entry ++ summary_text summary) in
-    (i.base, base, subst D made (subst S (sym one) (history_of i stem m m' s summary ok (subst C kept c) h0 h1 h2 h3 h4 h5 h6 h7 h8)))
+clocked_of : (e : Entry) (clock : Ticks) → e.at ≡ clock_time clock 0 → Clocked clock (e ∷ [])
+unfolding first_at
+clocked_of e clock h = h
 
 pub is_done : (job : RehearseJob) (before after : Option Files) (old new : Option (List ℕ)) (text : List ℕ) → Appends old new text → DoneAt job before after text → IsDone job before after old new
 is_done job before after None new text a h = tt
 is_done job before after (Some xs) None text a h = absurd a
 is_done job before after (Some xs) (Some ys) text a h = (text, a, h)
 
--- what is printed of a log of one entry, however the session ended
-text_past : (d : Dataset) (b : Base) (e : Entry) (fault : Option Fault) (s : Summary) → s.accepted ≡ 0 → s.clients ≡ 1 → s.entries ≡ 1 → s.faults.items ≡ faults_of fault
-    → s.records ≡ records d b (e ∷ []) → s.roots ≡ length e.made → s.status ≡ fault_status fault
-    → text_of_entry e ++ summary_text s ≡ log_text (e ∷ [])
-    ++ summary_line (length (e ∷ []) - 1) 1 (length (e ∷ [])) (faults_of fault) s.lines (records d b (e ∷ [])) s.refused (length (live_roots (e ∷ []))) (fault_status fault)
+-- what is printed of a log of one entry
+text_past : (d : Dataset) (b : Base) (i : Ingest) (e : Ended) (s : Summary) → Sums i e s → i.records ≡ records d b (i.entry ∷ [])
+    → text_of_entry i.entry ++ summary_text s ≡ log_text (i.entry ∷ [])
+    ++ summary_line (length (i.entry ∷ []) - 1) 1 (length (i.entry ∷ [])) (faults_of (fault_of e.session.failed e.broken)) e.session.lines (records d b (i.entry ∷ [])) e.session.refused (length (live_roots (i.entry ∷ []))) s.status
 unfolding log_text live_roots
-text_past d b e fault s h0 h1 h2 h3 h5 h7 h8 =
-    ap (λ t. text_of_entry e ++ t)
-    (ap (λ n. summary_line n s.clients s.entries s.faults.items s.lines s.records s.refused s.roots s.status) h0
-    ∙ ap (λ n. summary_line 0 n s.entries s.faults.items s.lines s.records s.refused s.roots s.status) h1
-    ∙ ap (λ n. summary_line 0 1 n s.faults.items s.lines s.records s.refused s.roots s.status) h2
-    ∙ ap (λ fs. summary_line 0 1 1 fs s.lines s.records s.refused s.roots s.status) h3
-    ∙ ap (λ n. summary_line 0 1 1 (faults_of fault) s.lines n s.refused s.roots s.status) h5
-    ∙ ap (λ n. summary_line 0 1 1 (faults_of fault) s.lines (records d b (e ∷ [])) s.refused n s.status) h7
-    ∙ ap (λ n. summary_line 0 1 1 (faults_of fault) s.lines (records d b (e ∷ [])) s.refused (length e.made) n) h8)
+text_past d b i e s h r =
+    ap (λ t. text_of_entry i.entry ++ t)
+    (ap (λ n. summary_line n s.clients s.entries s.faults.items s.lines s.records s.refused s.roots s.status) h.accepted
+    ∙ ap (λ n. summary_line 0 n s.entries s.faults.items s.lines s.records s.refused s.roots s.status) h.clients
+    ∙ ap (λ n. summary_line 0 1 n s.faults.items s.lines s.records s.refused s.roots s.status) h.entries
+    ∙ ap (λ fs. summary_line 0 1 1 fs s.lines s.records s.refused s.roots s.status) h.faults
+    ∙ ap (λ n. summary_line 0 1 1 (faults_of (fault_of e.session.failed e.broken)) n s.records s.refused s.roots s.status) h.lines
+    ∙ ap (λ n. summary_line 0 1 1 (faults_of (fault_of e.session.failed e.broken)) e.session.lines n s.refused s.roots s.status) (h.records ∙ r)
+    ∙ ap (λ n. summary_line 0 1 1 (faults_of (fault_of e.session.failed e.broken)) e.session.lines (records d b (i.entry ∷ [])) n s.roots s.status) h.refused
+    ∙ ap (λ n. summary_line 0 1 1 (faults_of (fault_of e.session.failed e.broken)) e.session.lines (records d b (i.entry ∷ [])) e.session.refused n s.status) h.roots)
 
-ends_only : (files f1 f2 : Option Files) (left : List ℕ → List ℕ) (stem : List ℕ) (job : RehearseJob) (i : Ingest) (fault : Option Fault) (lines refused : ℕ) → i.dataset ≡ dataset_of job
-    → KeepsFiles files f1 → job.stems ≡ stem ∷ [] → ClientEndAt i.dataset i.base (log_of i) f1 f2 (left (request_file stem)) stem fault lines refused
-    → OnlyClientEnds (dataset_of job) i.base (log_of i) files f2 left job.stems fault lines refused
-ends_only files f1 f2 left stem job i fault lines refused made kept one ends =
-    let S : List (List ℕ) → Type 0 = λ stems. OnlyClientEnds (dataset_of job) i.base (log_of i) files f2 left stems fault lines refused in
-    let D : Dataset → Type 0 = λ d. ClientEndAt d i.base (log_of i) files f2 (left (request_file stem)) stem fault lines refused in
+ends_only : (files f1 f2 : Option Files) (left : List ℕ → List ℕ) (stem : List ℕ) (job : RehearseJob) (i : Ingest) (broken failed : Bool) (lines refused : ℕ) → i.dataset ≡ dataset_of job
+    → KeepsFiles files f1 → job.stems ≡ stem ∷ [] → ClientEndAt i.dataset i.base (log_of i) f1 f2 (left (request_file stem)) stem broken failed lines refused
+    → OnlyClientEnds (dataset_of job) i.base (log_of i) files f2 left job.stems broken failed lines refused
+ends_only files f1 f2 left stem job i broken failed lines refused made kept one ends =
+    let S : List (List ℕ) → Type 0 = λ stems. OnlyClientEnds (dataset_of job) i.base (log_of i) files f2 left stems broken failed lines refused in
+    let D : Dataset → Type 0 = λ d. ClientEndAt d i.base (log_of i) files f2 (left (request_file stem)) stem broken failed lines refused in
     subst S (sym one) (subst D made (go files kept))
   where
-    go : (f : Option Files) → KeepsFiles f f1 → ClientEndAt i.dataset i.base (log_of i) f f2 (left (request_file stem)) stem fault lines refused
+    go : (f : Option Files) → KeepsFiles f f1 → ClientEndAt i.dataset i.base (log_of i) f f2 (left (request_file stem)) stem broken failed lines refused
     go None k = tt
     go (Some m) k =
-        let P : Option Files → Type 0 = λ x. ClientEndAt i.dataset i.base (log_of i) x f2 (left (request_file stem)) stem fault lines refused in
+        let P : Option Files → Type 0 = λ x. ClientEndAt i.dataset i.base (log_of i) x f2 (left (request_file stem)) stem broken failed lines refused in
         subst P k ends
 
-pub came_past : (files f1 f2 : Option Files) (left : List ℕ → List ℕ) (stem : List ℕ) (job : RehearseJob) (i : Ingest) (fault : Option Fault) (summary : Summary) (a b c : Seen) → IsIngest i → i.dataset ≡ dataset_of job → HasBase files job i.base → TablesRead files left job
-    → KeepsFiles files f1 → has_one_client job ≡ true → job.stems ≡ stem ∷ [] → ClientEndAt i.dataset i.base (log_of i) f1 f2 (left (request_file stem)) stem fault summary.lines summary.refused
-    → IsLater a b → FaultCause fault stem b c
-    → summary.accepted ≡ 0 → summary.clients ≡ 1 → summary.entries ≡ 1 → summary.faults.items ≡ faults_of fault → summary.records ≡ i.records
-    → summary.roots ≡ length i.entry.made → summary.status ≡ fault_status fault
+pub came_past : (files f1 f2 : Option Files) (left : List ℕ → List ℕ) (stem : List ℕ) (job : RehearseJob) (i : Ingest) (e : Ended) (summary : Summary) (a b c : Seen)
+    → IsIngest i → i.dataset ≡ dataset_of job → i.entry.at ≡ clock_time job.clock 0 → HasBase files job i.base → TablesRead files left job
+    → KeepsFiles files f1 → has_one_client job ≡ true → job.stems ≡ stem ∷ [] → ClientEndAt i.dataset i.base (log_of i) f1 f2 (left (request_file stem)) stem e.broken e.session.failed e.session.lines e.session.refused
+    → IsLater a b → b.reads ≡ a.reads → b.writes ≡ a.writes → ClientCause e.broken e.session.failed stem b c → Sums i e summary
     → CamePast files f2 left job a c (text_of_entry i.entry ++ summary_text summary) summary.status
-came_past files f1 f2 left stem job i fault summary a b c ok made base read kept sole one ends later why h0 h1 h2 h3 h5 h7 h8 =
+came_past files f1 f2 left stem job i e summary a b c ok made time base read kept sole one ends later r w why sums =
     let L : Dataset → Type 0 = λ d. Legal d i.base (log_of i) in
     let F : Dataset → Type 0 = λ d. (e : BuildError) → IsFull d i.base e → ⊥ in
+    let R : Dataset → Type 0 = λ d. RootsAreJoined d i.base (log_of i) in
+    let V : Dataset → Type 0 = λ d. LeavesAreJoined d i.base (log_of i) in
+    let N : Dataset → Type 0 = λ d. IdsStay d i.base (log_of i) in
     record {
       only = sole;
       base = i.base;
@@ -158,11 +130,17 @@ came_past files f1 f2 left stem job i fault summary a b c ok made base read kept
       fits = subst F made ok.fits;
       log = log_of i;
       legal = subst L made (legal_of i ok);
-      fault = fault;
-      cause = caused fault stem job.stems a b c one later why;
-      status = h8;
-      lines = summary.lines;
-      refused = summary.refused;
-      client = ends_only files f1 f2 left stem job i fault summary.lines summary.refused made kept one ends;
-      text = text_past (dataset_of job) i.base i.entry fault summary h0 h1 h2 h3 (h5 ∙ ok.records ∙ ap (λ d. records d i.base (i.entry ∷ [])) made) h7 h8;
+      owned = owned_of i (length job.stems) ok;
+      clocked = clocked_of i.entry job.clock time;
+      roots = subst R made (roots_of i ok);
+      leaves = subst V made (leaves_of i ok);
+      ids = subst N made (ids_of i ok);
+      broken = e.broken;
+      failed = e.session.failed;
+      cause = caused e.broken e.session.failed stem job.stems a b c one later r w why;
+      status = sums.status;
+      lines = e.session.lines;
+      refused = e.session.refused;
+      client = ends_only files f1 f2 left stem job i e.broken e.session.failed e.session.lines e.session.refused made kept one ends;
+      text = text_past (dataset_of job) i.base i e summary sums (ok.records ∙ ap (λ d. records d i.base (i.entry ∷ [])) made);
     }

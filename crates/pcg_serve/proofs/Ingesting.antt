@@ -1,11 +1,10 @@
 -- What the two tables make.
-use Rattle.std.proofs.Common.{◌≡◌, ℕ, ◌+◌, ◌*◌, ◌/◌, ◌<◌, ◌≤◌, ◌^◌, List, [], ◌∷◌, length, Some, refl, sym, ◌∙◌, ap, subst, arith}
+use Rattle.std.proofs.Common.{◌≡◌, ℕ, ◌*◌, ◌/◌, List, [], ◌∷◌, length, Some, refl, sym, ◌∙◌, ap, subst, arith}
 use Rattle.op_model.specs.declared.base.Dataset.{Dataset}
 use Rattle.op_model.specs.declared.base.Base.{Base}
 use Rattle.op_model.specs.declared.entry.Entry.{Entry}
 use Rattle.op_model.specs.Operations.{entry_at, first_entry}
 use Rattle.op_model.specs.Records.{records}
-use Rattle.op_model.specs.Valid.{IsBase, IsDataset}
 use Rattle.record_rows.specs.LogRows.{rows_of}
 use Rattle.record_rows.specs.Readings.{Image}
 use Rattle.record_rows.proofs.BaseCounts.{counted}
@@ -16,7 +15,7 @@ use Rattle.hierarchy_build.specs.Built.{IsFull}
 use Rattle.pcg_serve.specs.declared.ingest.Ingest.{Ingest}
 use Rattle.pcg_serve.specs.Ingests.{AreWords, IsIngest}
 
-time_of : (d : Dataset) (b : Base) (at : ℕ) → (first_entry d b at).at ≡ at
+pub time_of : (d : Dataset) (b : Base) (at : ℕ) → (first_entry d b at).at ≡ at
 unfolding first_entry
 time_of d b at = refl
 

@@ -10,5 +10,6 @@ pub mod Ending
 pub mod Exact
 pub mod Causing
 pub mod Finishing
+pub mod Past
 pub mod Others
 pub mod Later

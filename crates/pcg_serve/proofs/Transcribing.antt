@@ -1,8 +1,6 @@
 -- Replies to lines, one by one, are a transcript.
-use Rattle.std.proofs.Common.{◌≡◌, ℕ, ◌+◌, false, List, [], ◌∷◌, ◌++◌, cond, Option, Some, None, refl, sym, ◌∙◌, ap, subst, arith}
-use Rattle.std.specs.Prelude.{option_to_list, is_some, reverse, ◌==◌}
-use Rattle.std.specs.Io.KnownBytes.{Appends, Consumes, IsAtEnd}
-use Rattle.std.proofs.lemmas.List.{append-nil}
+use Rattle.std.proofs.Common.{◌≡◌, ℕ, ◌+◌, false, List, [], ◌∷◌, cond, Option, Some, None, refl, sym, ◌∙◌, ap, subst, arith}
+use Rattle.std.specs.Prelude.{is_some, reverse, ◌==◌}
 use Rattle.op_model.specs.declared.base.Dataset.{Dataset}
 use Rattle.op_model.specs.declared.base.Base.{Base}
 use Rattle.op_model.specs.declared.entry.Entry.{Entry}
@@ -12,10 +10,8 @@ use Rattle.op_model.specs.declared.request.Request.TheVariants as request
 use Rattle.op_model.specs.Operations.{first_entry}
 use Rattle.op_model.specs.Transcript.{Line, Asks, Faulty, Unbuilt, Transcript, WholeTranscript, entries_of}
 use Rattle.pcg_serve.specs.declared.ingest.Ingest.{Ingest}
-use Rattle.pcg_serve.specs.declared.session.Session.{Session}
 use Rattle.pcg_serve.specs.Ingests.{IsIngest, log_of}
-use Rattle.pcg_serve.specs.Sessions.{Answers, Serves, Did, Wrote, asked_of, texts}
-use Rattle.pcg_serve.specs.Headline.{IsWhole, TakesAll}
+use Rattle.pcg_serve.specs.Sessions.{Answers, Serves}
 
 -- one reply before a transcript
 transcribes_more : (d : Dataset) (b : Base) (e : Entry) (n : ℕ) (line : Line) (r : Reply) (lines : List Line) (rs : List Reply)
@@ -47,17 +43,7 @@ pub client_of : (d : Dataset) (b : Base) (at : ℕ) → (first_entry d b at).cli
 unfolding first_entry
 client_of d b at = refl
 
-pub takes_all : (old new : Option (List ℕ)) (bytes : List ℕ) → Consumes old new bytes → IsAtEnd new → TakesAll old bytes
-takes_all None new bytes h e = tt
-takes_all (Some xs) None bytes h e = absurd h
-takes_all (Some xs) (Some ys) bytes h e = h ∙ ap (λ zs. bytes ++ zs) e ∙ append-nil bytes
-
--- a session without a fault wrote each reply
-written_all : (held held' : Option (List ℕ)) (written : List Reply) (last : Option Reply) → last ≡ None → Wrote held held' written last → Appends held held' (texts written)
-written_all held held' written None e h = h
-written_all held held' written (Some r) e h = absurd (cc)
-
-no_last : (o : Option Reply) → is_some o ≡ false → o ≡ None
+pub no_last : (o : Option Reply) → is_some o ≡ false → o ≡ None
 no_last None e = refl
 no_last (Some r) e = absurd (cc)
 
@@ -66,22 +52,3 @@ whole_transcript i ok lines rs h =
     let own : List Entry → Type 0 = λ es. Transcript i.dataset i.base (log_of i) 1 1 1 es lines rs in
     subst own (sym (no_own i.dataset i.base i.entry (ap (λ (e : Entry). e.client) ok.entry ∙ client_of i.dataset i.base i.entry.at)))
     (transcribes i.dataset i.base i.entry 1 lines rs h)
-
-pub is_whole : (i : Ingest) (left held held' : Option (List ℕ)) (stream : List ℕ) (s : Session) → IsIngest i → TakesAll left stream
-    → Did i.dataset i.base (log_of i) (asked_of stream) held held' s → s.failed ≡ false → IsWhole i left held held' s
-is_whole i left held held' stream s ok taken did f =
-    let none : did.last ≡ None = no_last did.last (sym did.failed ∙ f) in
-    let all : did.written ++ option_to_list did.last ≡ did.written = ap (λ o. did.written ++ option_to_list o) none ∙ append-nil did.written in
-    let S : List Reply → Type 0 = λ rs. Serves i.dataset i.base (log_of i) (asked_of stream) rs in
-    let own : List Entry → Type 0 = λ es. Transcript i.dataset i.base (log_of i) 1 1 1 es (asked_of stream) did.written in
-    record {
-      stream = stream;
-      taken = taken;
-      written = did.written;
-      transcript = subst own (sym (no_own i.dataset i.base i.entry (ap (λ (e : Entry). e.client) ok.entry ∙ client_of i.dataset i.base i.entry.at)))
-          (transcribes i.dataset i.base i.entry 1 (asked_of stream) did.written (subst S all did.serves));
-      each = did.whole none;
-      wrote = written_all held held' did.written did.last none did.wrote;
-      count = did.count;
-      noes = did.refused;
-    }

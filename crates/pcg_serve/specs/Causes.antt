@@ -1,5 +1,5 @@
 -- Why a call answers what it answers.
-use Rattle.std.specs.Prelude.{◌≡◌, ◌≤◌, ◌⊎◌, ⊤, ℕ, List, [], ◌∷◌, length, Bool, true, false, Option, Some, None, is_none, ◌==◌, ◌&&◌}
+use Rattle.std.specs.Prelude.{◌≡◌, ◌≤◌, ◌⊎◌, ⊤, ℕ, List, [], ◌∷◌, ◌++◌, length, Bool, true, false, Option, Some, None, is_none, ◌==◌, ◌&&◌}
 use Rattle.std.specs.FinMap.{get, insert}
 use Rattle.pcg_base.specs.Causes.{Rose}
 use Rattle.pcg_base.specs.Told.{Files, Counts, IsLongerAt, KeepsFiles}
@@ -107,18 +107,31 @@ abbrev pub WasOpened : Option Files → (List ℕ → List ℕ) → List ℕ →
 WasOpened None left name = ⊤
 WasOpened (Some m) left name = get m name ≡ Some (left name)
 
+-- where the place tells its bytes, the source that was kept back last at this name has an end of them left
+abbrev pub WasBegun : Option Files → (List ℕ → List ℕ) → List ℕ → Type 0
+WasBegun None left name = ⊤
+WasBegun (Some m) left name = (front : List ℕ) × (get m name ≡ Some (front ++ left name))
+
+-- the counts of a place stood still
+abbrev pub IsStill : Seen → Seen → Type 0
+IsStill old new = (new.reads ≡ old.reads) × (new.writes ≡ old.writes)
+
 -- where the place tells its bytes, the client's answer file is empty, and all others are as they were
 abbrev pub Emptied : Option Files → List ℕ → Option Files → Type 0
 Emptied None stem after = ⊤
 Emptied (Some before) stem after = after ≡ Some (insert before (answer_file stem) [])
 
--- Why a client's session didn't begin, and what the files are then: the fault line names the client, and the file whose count rose. The requests are opened before the answers, and both before a request is read.
+-- both of a client's files were opened and kept back: the answers are empty, an end of the requests is left, and no count rose
+abbrev pub WasKept : Option Files → Option Files → (List ℕ → List ℕ) → List ℕ → Seen → Seen → Type 0
+WasKept m m' left stem old new = Emptied m stem m' × WasBegun m left (request_file stem) × IsStill old new
+
+-- Why a client's session didn't begin, and what the files are then: the fault line names the client, and the file whose count rose. The requests are opened before the answers, and both before a request is read. What was opened is kept back.
 abbrev pub StopsAt : Option Files → Option Files → (List ℕ → List ℕ) → List ℕ → Seen → Seen → Stop → Type 0
 StopsAt m m' left stem old new (stops.ReadFault client files.Requests) = (client ≡ 1) × ReadRose old new (request_file stem) × KeepsFiles m m'
 StopsAt m m' left stem old new (stops.WriteFault client files.Answers) =
-    (client ≡ 1) × WriteRose old new (answer_file stem) × WasOpened m left (request_file stem) × KeepsFiles m m'
-StopsAt m m' left stem old new stops.NotBuilt = IsLongerAt m (request_file stem) limit × Emptied m stem m'
-StopsAt m m' left stem old new stops.NoMemory = KeepsFiles m m' ⊎ Emptied m stem m'
+    (client ≡ 1) × WriteRose old new (answer_file stem) × WasOpened m left (request_file stem) × (new.reads ≡ old.reads) × KeepsFiles m m'
+StopsAt m m' left stem old new stops.NotBuilt = IsLongerAt m (request_file stem) limit × WasKept m m' left stem old new
+StopsAt m m' left stem old new stops.NoMemory = KeepsFiles m m' ⊎ WasKept m m' left stem old new
 StopsAt m m' left stem old new stop = ⊥
 
 -- the same of the only client

@@ -1,5 +1,5 @@
 -- What a call promises that was done: its output and answer files are those of one legal history.
-use Rattle.std.specs.Prelude.{◌≡◌, ◌≤◌, ℕ, ◌+◌, ◌-◌, ◌==◌, ◌↔◌, ◌⊎◌, ⊤, Bool, true, false, not, bytes_eq, IsTrue, IsSome, option_to_list, slice_index, take, drop, List, [], ◌∷◌, ◌++◌, length, count_by, Option, Some, None}
+use Rattle.std.specs.Prelude.{◌≡◌, ◌≤◌, ℕ, ◌+◌, ◌-◌, ◌↔◌, ◌⊎◌, ⊤, Bool, true, false, not, bytes_eq, IsTrue, is_some, option_to_list, List, [], ◌∷◌, ◌++◌, length, count_by, Option, Some, None}
 use Rattle.std.specs.List.{filter, list_any}
 use Rattle.std.specs.FinMap.{get, insert}
 use Rattle.graph_model.specs.Lists.{has}
@@ -9,28 +9,29 @@ use Rattle.op_model.specs.declared.base.Base.{Base}
 use Rattle.op_model.specs.declared.entry.Entry.{Entry}
 use Rattle.op_model.specs.declared.reply.Reply.{Reply}
 use Rattle.op_model.specs.Edges.{linked}
-use Rattle.op_model.specs.Labels.{edges, root}
+use Rattle.op_model.specs.Chunks.{layers}
+use Rattle.op_model.specs.Labels.{Joined, edges, node, root}
 use Rattle.op_model.specs.Answers.{leaves}
 use Rattle.op_model.specs.Records.{records}
 use Rattle.op_model.specs.Refusals.{first_at, last_at, prefix_at}
 use Rattle.op_model.specs.Legal.{Legal}
 use Rattle.op_model.specs.Transcript.{WholeTranscript}
 use Rattle.request_lines.specs.Texts.{text_of_entry, text_of_reply}
+use Rattle.pcg_base.specs.declared.clock.Ticks.{Ticks}
 use Rattle.pcg_base.specs.Causes.{Rose}
 use Rattle.pcg_base.specs.Told.{AppendsFront, Files, KeepsFiles}
 use Rattle.pcg_words.specs.declared.job.RehearseJob.{RehearseJob}
 use Rattle.pcg_words.specs.declared.job.Job.{Job}
 use Rattle.pcg_words.specs.declared.job.Job.TheVariants as job
 use Rattle.pcg_words.specs.Job.{request_file, answer_file}
-use Rattle.std.specs.Io.KnownBytes.{Appends, Consumes, IsAtEnd}
+use Rattle.std.specs.Io.KnownBytes.{Appends}
 use Rattle.pcg_serve.specs.declared.client.Ended.{Ended}
 use Rattle.pcg_serve.specs.declared.ingest.Ingest.{Ingest}
-use Rattle.pcg_serve.specs.declared.session.Session.{Session}
-use Rattle.pcg_serve.specs.Ingests.{log_of}
+use Rattle.pcg_serve.specs.declared.summary.Summary.{Summary}
 use Rattle.hierarchy_build.specs.declared.errors.BuildError.{BuildError}
 use Rattle.hierarchy_build.specs.Built.{IsFull}
-use Rattle.pcg_serve.specs.Jobs.{HasBase, dataset_of}
-use Rattle.pcg_serve.specs.Sessions.{Did, asked_of, refuses, texts}
+use Rattle.pcg_serve.specs.Jobs.{HasBase, clock_time, dataset_of}
+use Rattle.pcg_serve.specs.Sessions.{ServesPart, asked_of, refuses, texts}
 use Rattle.pcg_serve.specs.declared.summary.Fault.{Fault}
 use Rattle.pcg_serve.specs.declared.summary.Fault.TheVariants as faults
 use Rattle.pcg_serve.specs.declared.summary.ClientFault.{ClientFault}
@@ -49,6 +50,16 @@ log_text (e ∷ log) = log_text log ++ text_of_entry e
 unfoldable pub live_roots : List Entry → List ℕ
 live_roots [] = []
 live_roots (e ∷ log) = filter (λ r. not (has e.retired r)) (live_roots log) ++ e.made
+
+-- the first entry is of no client, and each other one of one of so many clients, who are counted from 1
+abbrev pub EntriesOwned : ℕ → List Entry → Type 0
+EntriesOwned clients [] = ⊤
+EntriesOwned clients (e ∷ []) = e.client ≡ 0
+EntriesOwned clients (e ∷ f ∷ log) = (1 ≤ e.client) × (e.client ≤ clients) × EntriesOwned clients (f ∷ log)
+
+-- the first entry has the clock's first time
+abbrev pub Clocked : Ticks → List Entry → Type 0
+Clocked clock log = first_at log ≡ clock_time clock 0
 
 -- how many replies all clients got, and how many of them refuse their line
 unfoldable pub reply_count : List (List Reply) → ℕ
@@ -89,21 +100,31 @@ module _ (d : Dataset) (b : Base) where
       (t v w : ℕ) → first_at log ≤ t → t ≤ last_at log → IsTrue (has b.supervoxels v)
       → IsTrue (has (leaves d b (prefix_at log t) (root d b (prefix_at log t) v)) w) ↔ (IsTrue (has b.supervoxels w) × JoinedBy (linked (edges d b (prefix_at log t))) b.supervoxels v w)
 
-  -- One legal log stands behind all that was printed and answered.
-  pub record History (before after : Files) (stems : List (List ℕ)) (printed : List ℕ) : Type 0 where
+  -- If a supervoxel's node at a published time has the id of any node at a later one, it keeps that id all the time in between, and at the end a walk inside its chunk joins the two supervoxels. So no id of a superseded node comes back.
+  abbrev pub IdsStay : List Entry → Type 0
+  IdsStay log =
+      (s t u layer v w : ℕ) → first_at log ≤ s → s ≤ t → t ≤ u → u ≤ last_at log → IsTrue (has (layers d) layer) → IsTrue (has b.supervoxels v) → IsTrue (has b.supervoxels w)
+      → node d b (prefix_at log s) layer v ≡ node d b (prefix_at log u) layer w
+      → (node d b (prefix_at log t) layer v ≡ node d b (prefix_at log s) layer v) × Joined d b (prefix_at log u) layer v w
+
+  -- One legal log stands behind all that was printed and answered. Its first entry has the clock's first time, and each other one is of a client.
+  pub record History (clock : Ticks) (before after : Files) (stems : List (List ℕ)) (printed : List ℕ) : Type 0 where
     pub log : List Entry
     pub legal : Legal d b log
+    pub owned : EntriesOwned (length stems) log
+    pub clocked : Clocked clock log
     pub replies : List (List Reply)
     pub served : AllServed before log 1 stems replies
     pub files : after ≡ answered before stems replies
     pub roots : RootsAreJoined log
     pub leaves : LeavesAreJoined log
+    pub ids : IdsStay log
     pub text : printed ≡ log_text log
         ++ summary_line (length log - 1) (length stems) (length log) [] (reply_count replies) (records d b log) (refusal_count replies) (length (live_roots log)) 0
 
 -- The tables spell a base, and one legal history over it stands behind what was printed and answered.
 abbrev pub Done : RehearseJob → Files → Files → List ℕ → Type 0
-Done job before after printed = (b : Base) × HasBase (Some before) job b × History (dataset_of job) b before after job.stems printed
+Done job before after printed = (b : Base) × HasBase (Some before) job b × History (dataset_of job) b job.clock before after job.stems printed
 
 -- where the place tells its bytes
 abbrev pub DoneAt : RehearseJob → Option Files → Option Files → List ℕ → Type 0
@@ -122,57 +143,23 @@ abbrev pub IsJobDone : Option Job → Option Files → Option Files → Option (
 IsJobDone None before after old new = ⊥
 IsJobDone (Some (job.Rehearse found)) before after old new = IsDone found before after old new
 
--- where a source tells its bytes, these are all that it has
-abbrev pub TakesAll : Option (List ℕ) → List ℕ → Type 0
-TakesAll None stream = ⊤
-TakesAll (Some left) stream = left ≡ stream
-
--- A session that met no fault: each line of the stream has its reply, and the sink got their texts.
-pub record IsWhole (i : Ingest) (left held held' : Option (List ℕ)) (s : Session) : Type 0 where
-  pub stream : List ℕ
-  pub taken : TakesAll left stream
-  pub written : List Reply
-  pub transcript : WholeTranscript i.dataset i.base (log_of i) 1 (asked_of stream) written
-  pub each : length written ≡ length (asked_of stream)
-  pub wrote : Appends held held' (texts written)
-  pub count : s.lines ≡ length written
-  pub noes : s.refused ≡ count_by refuses written
-
--- the front of some bytes up to their last line feed
-pub record IsEndedPart (bytes part : List ℕ) : Type 0 where
-  pub front : part ≡ take (length part) bytes
-  pub ended : (length part ≡ 0) ⊎ (slice_index bytes (length part - 1) ≡ 10)
-  pub rest : list_any (λ b. b == 10) (drop (length part) bytes) ≡ false
-
--- A session, whatever it ended in: what was taken of the stream, the bytes whose lines were served, and what it did. A stream that broke off is served up to its last line feed.
-pub record SessionEnd (i : Ingest) (left left' held held' : Option (List ℕ)) (e : Ended) : Type 0 where
-  pub taken : List ℕ
-  pub consumed : Consumes left left' taken
-  pub size : length taken ≤ 65536
-  pub served : List ℕ
-  pub part : ((served ≡ taken) × IsAtEnd left') ⊎ IsEndedPart taken served
-  pub did : Did i.dataset i.base (log_of i) (asked_of served) held held' e.session
-  pub whole : e.fault ≡ None → (served ≡ taken) × IsAtEnd left'
-  pub failed : (e.session.failed ≡ true) ↔ (e.fault ≡ Some faults.WriteFault)
-
 -- an answer file has the texts of these replies, and a front of the text of the one whose writing failed
 abbrev pub HasTexts : List ℕ → List Reply → Option Reply → Type 0
 HasTexts answers written None = answers ≡ texts written
 HasTexts answers written (Some r) = (front rest : List ℕ) × (text_of_reply r ≡ front ++ rest) × (answers ≡ texts written ++ front)
 
--- How a client's session ended: its requests are the bytes that were taken, no more than are read of a stream, and those that the place keeps as left, its replies a transcript of what the served ones ask, and its answer file holds their texts.
-pub record ClientEnd (d : Dataset) (b : Base) (log : List Entry) (before after : Files) (left stem : List ℕ) (fault : Option Fault) (lines refused : ℕ) : Type 0 where
+-- How a client's session ended: its requests are the bytes that were taken, no more than are read of a stream, and those that the place keeps as left, its replies a transcript of what the served ones ask, and its answer file holds their texts. A read of them may have failed, and the writing of a reply.
+pub record ClientEnd (d : Dataset) (b : Base) (log : List Entry) (before after : Files) (left stem : List ℕ) (broken failed : Bool) (lines refused : ℕ) : Type 0 where
   pub taken : List ℕ
   pub stream : get before (request_file stem) ≡ Some (taken ++ left)
   pub size : length taken ≤ 65536
   pub served : List ℕ
-  pub part : ((served ≡ taken) × (left ≡ [])) ⊎ IsEndedPart taken served
-  pub whole : fault ≡ None → (served ≡ taken) × (left ≡ [])
+  pub part : ServesPart broken taken served (left ≡ [])
   pub written : List Reply
   pub last : Option Reply
   pub transcript : WholeTranscript d b log 1 (asked_of served) (written ++ option_to_list last)
   pub each : last ≡ None → length written ≡ length (asked_of served)
-  pub broke : IsSome last ↔ (fault ≡ Some faults.WriteFault)
+  pub broke : failed ≡ is_some last
   pub answers : List ℕ
   pub texts_so : HasTexts answers written last
   pub files : after ≡ insert before (answer_file stem) answers
@@ -180,29 +167,16 @@ pub record ClientEnd (d : Dataset) (b : Base) (log : List Entry) (before after :
   pub noes : refused ≡ count_by refuses written
 
 -- where the place tells its bytes
-abbrev pub ClientEndAt : Dataset → Base → List Entry → Option Files → Option Files → List ℕ → List ℕ → Option Fault → ℕ → ℕ → Type 0
-ClientEndAt d b log None after left stem fault lines refused = ⊤
-ClientEndAt d b log (Some before) None left stem fault lines refused = ⊥
-ClientEndAt d b log (Some before) (Some after) left stem fault lines refused = ClientEnd d b log before after left stem fault lines refused
+abbrev pub ClientEndAt : Dataset → Base → List Entry → Option Files → Option Files → List ℕ → List ℕ → Bool → Bool → ℕ → ℕ → Type 0
+ClientEndAt d b log None after left stem broken failed lines refused = ⊤
+ClientEndAt d b log (Some before) None left stem broken failed lines refused = ⊥
+ClientEndAt d b log (Some before) (Some after) left stem broken failed lines refused = ClientEnd d b log before after left stem broken failed lines refused
 
 -- the same of the only client; the place keeps what each request file has left
-abbrev pub OnlyClientEnds : Dataset → Base → List Entry → Option Files → Option Files → (List ℕ → List ℕ) → List (List ℕ) → Option Fault → ℕ → ℕ → Type 0
-OnlyClientEnds d b log files files' left [] fault lines refused = ⊥
-OnlyClientEnds d b log files files' left (stem ∷ stems) fault lines refused = ClientEndAt d b log files files' (left (request_file stem)) stem fault lines refused
-
--- The only client was served, and its answers are the texts of its replies.
-pub record ClientDone (i : Ingest) (stem : List ℕ) (before after : Files) (s : Session) : Type 0 where
-  pub written : List Reply
-  pub served : Served i.dataset i.base before (log_of i) 1 stem written
-  pub files : after ≡ insert before (answer_file stem) (texts written)
-  pub count : s.lines ≡ length written
-  pub noes : s.refused ≡ count_by refuses written
-
--- where the place tells its bytes
-abbrev pub ClientDoneAt : Ingest → List ℕ → Option Files → Option Files → Session → Type 0
-ClientDoneAt i stem None after s = ⊤
-ClientDoneAt i stem (Some before) None s = ⊥
-ClientDoneAt i stem (Some before) (Some after) s = ClientDone i stem before after s
+abbrev pub OnlyClientEnds : Dataset → Base → List Entry → Option Files → Option Files → (List ℕ → List ℕ) → List (List ℕ) → Bool → Bool → ℕ → ℕ → Type 0
+OnlyClientEnds d b log files files' left [] broken failed lines refused = ⊥
+OnlyClientEnds d b log files files' left (stem ∷ stems) broken failed lines refused =
+    ClientEndAt d b log files files' (left (request_file stem)) stem broken failed lines refused
 
 -- whether this is the answer file of one of these clients
 abbrev pub is_answer_file : List (List ℕ) → List ℕ → Bool
@@ -223,6 +197,12 @@ stems_of (Some (job.Rehearse found)) = found.stems
 abbrev pub Prints : Option (List ℕ) → Option (List ℕ) → ℕ → ℕ → List ℕ → Type 0
 Prints held held' outs outs' text = Appends held held' text ⊎ (AppendsFront held held' text × Rose outs outs')
 
+-- the fault that a session ends in, if the writing of a reply failed, or a read of the requests did: the first one comes first
+unfoldable pub fault_of : Bool → Bool → Option Fault
+fault_of true broken = Some faults.WriteFault
+fault_of false true = Some faults.ReadFault
+fault_of false false = None
+
 -- how the only client's session ended, as the summary tells it
 abbrev pub faults_of : Option Fault → List ClientFault
 faults_of None = []
@@ -234,18 +214,38 @@ fault_status None = 0
 fault_status (Some faults.ReadFault) = 2
 fault_status (Some faults.WriteFault) = 4
 
--- a session ends in a fault only where a count of its kind rose, at the place and beside the name of the client's file
-abbrev pub FaultCause : Option Fault → List ℕ → Seen → Seen → Type 0
-FaultCause None stem old new = ⊤
-FaultCause (Some faults.ReadFault) stem old new = ReadBroke old new (request_file stem)
-FaultCause (Some faults.WriteFault) stem old new = WriteBroke old new (answer_file stem)
+-- if a read of a client's requests failed the counts of reading rose, at the place and beside the name, and else that of the place stood still
+abbrev pub ReadsSo : Bool → List ℕ → Seen → Seen → Type 0
+ReadsSo true name old new = ReadBroke old new name
+ReadsSo false name old new = new.reads ≡ old.reads
+
+-- the same of the writing of a client's answers
+abbrev pub WritesSo : Bool → List ℕ → Seen → Seen → Type 0
+WritesSo true name old new = WriteBroke old new name
+WritesSo false name old new = new.writes ≡ old.writes
+
+-- what the counts say of a client's two files
+abbrev pub ClientCause : Bool → Bool → List ℕ → Seen → Seen → Type 0
+ClientCause broken failed stem old new = ReadsSo broken (request_file stem) old new × WritesSo failed (answer_file stem) old new
 
 -- the same of the only client
-abbrev pub OnlyFaultCause : Option Fault → List (List ℕ) → Seen → Seen → Type 0
-OnlyFaultCause fault [] old new = ⊥
-OnlyFaultCause fault (stem ∷ stems) old new = FaultCause fault stem old new
+abbrev pub OnlyClientCause : Bool → Bool → List (List ℕ) → Seen → Seen → Type 0
+OnlyClientCause broken failed [] old new = ⊥
+OnlyClientCause broken failed (stem ∷ stems) old new = ClientCause broken failed stem old new
 
--- A call came past its sessions: its job has one client and no schedule, the tables were read and spell a base whose records can be had, and what is printed are the lines of a legal log over it and the summary.
+-- a summary tells of a log of one entry, and of its only client's session
+pub record Sums (i : Ingest) (e : Ended) (s : Summary) : Type 0 where
+  pub accepted : s.accepted ≡ 0
+  pub clients : s.clients ≡ 1
+  pub entries : s.entries ≡ 1
+  pub faults : s.faults.items ≡ faults_of (fault_of e.session.failed e.broken)
+  pub lines : s.lines ≡ e.session.lines
+  pub records : s.records ≡ i.records
+  pub refused : s.refused ≡ e.session.refused
+  pub roots : s.roots ≡ length i.entry.made
+  pub status : s.status ≡ fault_status (fault_of e.session.failed e.broken)
+
+-- A call came past its sessions: its job has one client and no schedule, the tables were read and spell a base whose records can be had, and what is printed are the lines of a legal log over it, by its clock and its clients, and the summary.
 pub record CamePast (files files' : Option Files) (left : List ℕ → List ℕ) (job : RehearseJob) (old new : Seen) (printed : List ℕ) (ended : ℕ) : Type 0 where
   pub only : has_one_client job ≡ true
   pub base : Base
@@ -254,14 +254,20 @@ pub record CamePast (files files' : Option Files) (left : List ℕ → List ℕ)
   pub fits : (e : BuildError) → IsFull (dataset_of job) base e → ⊥
   pub log : List Entry
   pub legal : Legal (dataset_of job) base log
-  pub fault : Option Fault
-  pub cause : OnlyFaultCause fault job.stems old new
-  pub status : ended ≡ fault_status fault
+  pub owned : EntriesOwned (length job.stems) log
+  pub clocked : Clocked job.clock log
+  pub roots : RootsAreJoined (dataset_of job) base log
+  pub leaves : LeavesAreJoined (dataset_of job) base log
+  pub ids : IdsStay (dataset_of job) base log
+  pub broken : Bool
+  pub failed : Bool
+  pub cause : OnlyClientCause broken failed job.stems old new
+  pub status : ended ≡ fault_status (fault_of failed broken)
   pub lines : ℕ
   pub refused : ℕ
-  pub client : OnlyClientEnds (dataset_of job) base log files files' left job.stems fault lines refused
+  pub client : OnlyClientEnds (dataset_of job) base log files files' left job.stems broken failed lines refused
   pub text : printed ≡ log_text log
-      ++ summary_line (length log - 1) 1 (length log) (faults_of fault) lines (records (dataset_of job) base log) refused (length (live_roots log)) (fault_status fault)
+      ++ summary_line (length log - 1) 1 (length log) (faults_of (fault_of failed broken)) lines (records (dataset_of job) base log) refused (length (live_roots log)) ended
 
 -- A call stopped before its sessions, by this cause and with these files, with this fault line alone; or it came past them, printed the log and the summary, and its status is that of the client's end or of its output.
 abbrev pub Outcome : Option Files → Option Files → (List ℕ → List ℕ) → RehearseJob → Seen → Seen → Option (List ℕ) → Option (List ℕ) → ℕ → ℕ → ℕ → Type 0
@@ -275,6 +281,10 @@ JobOutcome files files' left None old new held held' outs outs' status =
     KeepsFiles files files' × (((status ≡ 1) × Prints held held' outs outs' (stop_text stops.BadWords)) ⊎ ((status ≡ 5) × Prints held held' outs outs' (stop_text stops.NoMemory)))
 JobOutcome files files' left (Some (job.Rehearse found)) old new held held' outs outs' status =
     Outcome files files' left found old new held held' outs outs' status ⊎ (KeepsFiles files files' × (status ≡ 5) × Prints held held' outs outs' (stop_text stops.NoMemory))
+
+-- each count stood still
+abbrev pub IsFaultless : ℕ → ℕ → ℕ → ℕ → ℕ → ℕ → Type 0
+IsFaultless reads reads' writes writes' outs outs' = (reads' ≡ reads) × (writes' ≡ writes) × (outs' ≡ outs)
 
 -- no count rose
 abbrev pub IsQuiet : ℕ → ℕ → ℕ → ℕ → ℕ → ℕ → Type 0

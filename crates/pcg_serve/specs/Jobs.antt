@@ -1,8 +1,9 @@
 -- The dataset of a job, and what its tables spell.
-use Rattle.std.specs.Prelude.{◌≡◌, ◌≤◌, ⊤, ℕ, List, length, Option, Some, None}
+use Rattle.std.specs.Prelude.{◌≡◌, ◌≤◌, ◌+◌, ◌*◌, ◌-◌, ◌^◌, min, ⊤, ℕ, List, length, Option, Some, None}
 use Rattle.std.specs.FinMap.{get}
 use Rattle.op_model.specs.declared.base.Dataset.{Dataset}
 use Rattle.op_model.specs.declared.base.Base.{Base}
+use Rattle.pcg_base.specs.declared.clock.Ticks.{Ticks}
 use Rattle.pcg_base.specs.Told.{Files}
 use Rattle.pcg_words.specs.declared.job.RehearseJob.{RehearseJob}
 use Rattle.table_ingest.specs.Bases.{Spells}
@@ -15,6 +16,10 @@ dataset_of job = record {
   merge_affinity = job.merge_affinity;
   capacity = job.records;
 }
+
+-- the n-th time that a clock tells, counted from 0, cut down to 2^62 - 1
+abbrev pub clock_time : Ticks → ℕ → ℕ
+clock_time clock n = min (clock.start + clock.step * n) (2 ^ 62 - 1)
 
 -- how many bytes a table may have
 abbrev pub table_limit : ℕ

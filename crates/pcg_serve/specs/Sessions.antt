@@ -1,6 +1,7 @@
 -- What a client gets to its lines, over the log of the first entry.
-use Rattle.std.specs.Prelude.{◌≡◌, ℕ, ◌+◌, if◌then◌else◌, Bool, true, false, ◌++◌, List, [], ◌∷◌, map, length, count_by, is_some, option_to_list, ⊤, Option, Some, None, Result, Ok, Err}
-use Rattle.std.specs.Io.KnownBytes.{Appends}
+use Rattle.std.specs.Prelude.{◌≡◌, ◌≤◌, ℕ, ◌+◌, ◌-◌, ◌==◌, ◌⊎◌, if◌then◌else◌, Bool, true, false, ◌++◌, List, [], ◌∷◌, map, length, take, drop, slice_index, count_by, is_some, option_to_list, ⊤, Option, Some, None, Result, Ok, Err}
+use Rattle.std.specs.List.{list_any}
+use Rattle.std.specs.Io.KnownBytes.{Appends, Consumes, IsAtEnd}
 use Rattle.op_model.specs.declared.base.Dataset.{Dataset}
 use Rattle.op_model.specs.declared.base.Base.{Base}
 use Rattle.op_model.specs.declared.entry.Entry.{Entry}
@@ -15,8 +16,12 @@ use Rattle.op_model.specs.Transcript.{Line, Asks, Faulty, Unbuilt, Transcript}
 use Rattle.request_lines.specs.Lines.{lines_of}
 use Rattle.request_lines.specs.Asking.{asked}
 use Rattle.request_lines.specs.Texts.{text_of_reply}
+use Rattle.pcg_base.specs.Causes.{Rose}
 use Rattle.pcg_base.specs.Told.{AppendsFront}
+use Rattle.pcg_serve.specs.declared.client.Ended.{Ended}
+use Rattle.pcg_serve.specs.declared.ingest.Ingest.{Ingest}
 use Rattle.pcg_serve.specs.declared.session.Session.{Session}
+use Rattle.pcg_serve.specs.Ingests.{log_of}
 
 -- what a line is that is read as this: edits and reads of changes aren't answered yet
 abbrev pub line_of : Result Request LineError → Line
@@ -103,3 +108,28 @@ pub record SoFar (d : Dataset) (b : Base) (log : List Entry) (stream rest : List
   pub wrote : Appends held held' (texts written)
   pub count : lines ≡ length written
   pub noes : refused ≡ count_by refuses written
+
+-- the front of some bytes up to their last line feed
+pub record IsEndedPart (bytes part : List ℕ) : Type 0 where
+  pub front : part ≡ take (length part) bytes
+  pub ended : (length part ≡ 0) ⊎ (slice_index bytes (length part - 1) ≡ 10)
+  pub rest : list_any (λ b. b == 10) (drop (length part) bytes) ≡ false
+
+-- What was served of the bytes that were taken from a stream: all of them if it was read to its end, and if a read failed those up to the last line feed.
+abbrev pub ServesPart : Bool → List ℕ → List ℕ → Type 0 → Type 0
+ServesPart false taken served at_end = (served ≡ taken) × at_end
+ServesPart true taken served at_end = IsEndedPart taken served
+
+-- a count rose if a call failed, and else stood still
+abbrev pub CountsSo : Bool → ℕ → ℕ → Type 0
+CountsSo true before now = Rose before now
+CountsSo false before now = now ≡ before
+
+-- A session, whatever it ended in: what was taken of the stream, the bytes whose lines were served, and what it did.
+pub record SessionEnd (i : Ingest) (left left' held held' : Option (List ℕ)) (e : Ended) : Type 0 where
+  pub taken : List ℕ
+  pub consumed : Consumes left left' taken
+  pub size : length taken ≤ 65536
+  pub served : List ℕ
+  pub part : ServesPart e.broken taken served (IsAtEnd left')
+  pub did : Did i.dataset i.base (log_of i) (asked_of served) held held' e.session

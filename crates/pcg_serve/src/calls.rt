@@ -2,10 +2,11 @@
 
 ghost use Rattle.std.specs.Prelude.{◌≡◌, ◌≢◌, ◌≤◌, ◌⊎◌, ℕ, Some, None};
 ghost use Rattle.pcg_base.specs.Causes.{Rose};
+ghost use Rattle.pcg_base.specs.Told.{IsFlushed};
 ghost use Rattle.pcg_words.specs.Words.{MeetsMode, job_of};
 ghost use Rattle.pcg_serve.specs.Causes.{HasBadTableJob, HasFullBaseJob, HasLongTableJob, IsDueJob, IsUnbuiltJob};
 ghost use Rattle.pcg_serve.specs.Texts.{stop_text};
-ghost use Rattle.pcg_serve.specs.Headline.{IsJobDone, IsQuiet, JobOutcome, KeepsOthers, Prints, stems_of};
+ghost use Rattle.pcg_serve.specs.Headline.{IsFaultless, IsJobDone, IsQuiet, JobOutcome, KeepsOthers, Prints, stems_of};
 
 use crate::rehearsal::{run_rehearse, stopped};
 use crate::stops::Stop;
@@ -25,6 +26,8 @@ pub fn run<P: Place, C: Clock + Sync, G: Gate + Sync, K: Sink>(
     out: &mut K,
 ) -> u8
     ensures done { result ≡ 0 → IsJobDone (job_of words.now) (P.files place.old) (P.files place.new) (K.held out.old) (K.held out.new) }
+    ensures flushed { result ≡ 0 → IsFlushed (K.held out.new) (K.flushed out.new) }
+    ensures faultless { result ≡ 0 → IsFaultless (P.read_faults place.old) (P.read_faults place.new) (P.write_faults place.old) (P.write_faults place.new) (K.faults out.old) (K.faults out.new) }
     ensures known { (result ≡ 0) ⊎ (result ≡ 1) ⊎ (result ≡ 2) ⊎ (result ≡ 4) ⊎ (result ≡ 3) ⊎ (result ≡ 5) ⊎ (result ≡ 7) ⊎ (result ≡ 8) ⊎ (result ≡ 6) }
     ensures bad_words { result ≡ 1 → job_of words.now ≡ None }
     ensures no_job { job_of words.now ≡ None → (result ≡ 1) ⊎ (result ≡ 5) }
@@ -58,6 +61,8 @@ fn run_job<P: Place, K: Sink>(alloc: Global, job: &Job, place: &mut P, out: &mut
     requires { MeetsMode job.now }
     ensures outcome { JobOutcome (P.files place.old) (P.files place.new) (P.left_at place.new) (Some job.now) (record { reads = P.read_faults place.old; writes = P.write_faults place.old; counts = P.counts place.old }) (record { reads = P.read_faults place.new; writes = P.write_faults place.new; counts = P.counts place.new }) (K.held out.old) (K.held out.new) (K.faults out.old) (K.faults out.new) result }
     ensures done { result ≡ 0 → IsJobDone (Some job.now) (P.files place.old) (P.files place.new) (K.held out.old) (K.held out.new) }
+    ensures flushed { result ≡ 0 → IsFlushed (K.held out.new) (K.flushed out.new) }
+    ensures faultless { result ≡ 0 → IsFaultless (P.read_faults place.old) (P.read_faults place.new) (P.write_faults place.old) (P.write_faults place.new) (K.faults out.old) (K.faults out.new) }
     ensures known { (result ≡ 0) ⊎ (result ≡ 2) ⊎ (result ≡ 4) ⊎ (result ≡ 3) ⊎ (result ≡ 5) ⊎ (result ≡ 7) ⊎ (result ≡ 8) ⊎ (result ≡ 6) }
     ensures read { result ≡ 2 → Rose (P.read_faults place.old) (P.read_faults place.new) }
     ensures write { result ≡ 4 → Rose (P.write_faults place.old) (P.write_faults place.new) ⊎ Rose (K.faults out.old) (K.faults out.new) }

@@ -1,19 +1,18 @@
 //! The only client: its requests are opened, read, answered and kept back.
 
-ghost use Rattle.std.specs.Prelude.{◌≡◌, ◌≢◌, ◌≤◌, ◌⊎◌, ◌↔◌, ◌∷◌, [], ℕ, List, Some, None, IfOk, IfErr, IsErrOf, OnErr, false, true, IsTrue};
+ghost use Rattle.std.specs.Prelude.{◌≡◌, ◌≢◌, ◌≤◌, ◌⊎◌, ◌∷◌, [], ℕ, List, IfOk, IfErr, IsErrOf, OnErr};
 ghost use Rattle.std.specs.Io.KnownBytes.{Keeps};
-ghost use Rattle.pcg_base.specs.Causes.{Rose};
-ghost use Rattle.pcg_base.specs.Told.{IsLonger, KeepsFiles};
+ghost use Rattle.pcg_base.specs.Told.{IsLonger, KeepsFiles, LosesFront};
 ghost use Rattle.pcg_words.specs.Job.{answer_file, request_file};
 ghost use Rattle.pcg_serve.specs.Causes.{StopsAt};
-ghost use Rattle.pcg_serve.specs.Headline.{ClientDoneAt, ClientEndAt, FaultCause, IsWhole, KeepsOthers, SessionEnd};
+ghost use Rattle.pcg_serve.specs.Headline.{ClientCause, ClientEndAt, KeepsOthers};
 ghost use Rattle.pcg_serve.specs.Ingests.{AreWords, IsIngest, log_of};
+ghost use Rattle.pcg_serve.specs.Sessions.{CountsSo, SessionEnd};
 
 use crate::ingest::Ingest;
 use crate::session::{Session, serve};
 use crate::stops::{FileName, Stop};
 use crate::streams::ended_part;
-use crate::summary::Fault;
 use pcg_base::{NoMemory, Place, PlaceError, Sink, Source, StreamEnd, VecWords, read_stream};
 use pcg_words::{Name, answer_file, request_file};
 use std::alloc::Global;
@@ -26,26 +25,8 @@ pub const LIMIT: u64 = 65536;
 pub struct Ended {
     /// What it did.
     pub session: Session,
-    /// The fault that it ended in, if it did in one. A reply whose writing failed comes first.
-    pub fault: Option<Fault>,
-}
-
-/// How a session ended whose stream may have broken off.
-fn end_of(session: Session, broken: bool) -> Ended
-    ensures session { result.session ≡ session }
-    ensures none { result.fault ≡ None → (session.failed ≡ false) × (broken ≡ false) }
-    ensures failed { (session.failed ≡ true) ↔ (result.fault ≡ Some Fault.WriteFault) }
-    ensures read { result.fault ≡ Some Fault.ReadFault → IsTrue broken }
-    ensures write { result.fault ≡ Some Fault.WriteFault → IsTrue session.failed }
-{
-    let fault = if session.failed {
-        Some(Fault::WriteFault)
-    } else if broken {
-        Some(Fault::ReadFault)
-    } else {
-        None
-    };
-    Ended { session, fault }
+    /// Whether a read of the requests failed.
+    pub broken: bool,
 }
 
 /// Reads the requests and answers them.
@@ -59,15 +40,15 @@ fn serve_stream<S: Source, K: Sink>(
 ) -> Result<Ended, Stop>
     requires ingest { IsIngest ingest.now }
     requires words { AreWords ingest.now words.old.words }
-    ensures read { IfOk result (λ e. e.fault ≡ Some Fault.ReadFault → Rose (S.faults source.old) (S.faults source.new)) }
-    ensures write { IfOk result (λ e. e.fault ≡ Some Fault.WriteFault → Rose (K.faults sink.old) (K.faults sink.new)) }
     ensures kinds { IfErr result (λ stop. (stop ≡ Stop.NotBuilt) ⊎ (stop ≡ Stop.NoMemory)) }
     ensures long { IsErrOf result Stop.NotBuilt → IsLonger (S.left source.old) LIMIT }
     ensures ended { IfOk result (λ e. SessionEnd ingest.now (S.left source.old) (S.left source.new) (K.held sink.old) (K.held sink.new) e) }
+    ensures front { LosesFront (S.left source.old) (S.left source.new) }
     ensures unwritten { OnErr result (Keeps (K.held sink.old) (K.held sink.new)) }
-    ensures whole { IfOk result (λ e. e.fault ≡ None → IsWhole ingest.now (S.left source.old) (K.held sink.old) (K.held sink.new) e.session) }
-    ensures reads { S.faults source.old ≤ S.faults source.new }
-    ensures writes { K.faults sink.old ≤ K.faults sink.new }
+    ensures reads { IfOk result (λ e. CountsSo e.broken (S.faults source.old) (S.faults source.new)) }
+    ensures writes { IfOk result (λ e. CountsSo e.session.failed (K.faults sink.old) (K.faults sink.new)) }
+    ensures unread { OnErr result (S.faults source.new ≡ S.faults source.old) }
+    ensures unfailed { OnErr result (K.faults sink.new ≡ K.faults sink.old) }
 {
     let Ok(stream) = read_stream(alloc, source, LIMIT) else {
         return Err(Stop::NoMemory);
@@ -82,11 +63,17 @@ fn serve_stream<S: Source, K: Sink>(
                 ended_part(stream.bytes.as_slice()),
                 sink,
             );
-            Ok(end_of(session, true))
+            Ok(Ended {
+                session,
+                broken: true,
+            })
         }
         StreamEnd::Whole => {
             let session = serve(alloc, ingest, words, stream.bytes.as_slice(), sink);
-            Ok(end_of(session, false))
+            Ok(Ended {
+                session,
+                broken: false,
+            })
         }
     }
 }
@@ -103,11 +90,10 @@ pub fn run_client<P: Place>(
     requires ingest { IsIngest ingest.now }
     requires words { AreWords ingest.now words.old.words }
     ensures stop { IfErr result (λ stop. StopsAt (P.files place.old) (P.files place.new) (P.left_at place.new) stem.now (record { reads = P.read_faults place.old; writes = P.write_faults place.old; counts = P.counts place.old }) (record { reads = P.read_faults place.new; writes = P.write_faults place.new; counts = P.counts place.new }) stop) }
-    ensures ended { IfOk result (λ e. ClientEndAt ingest.now.dataset ingest.now.base (log_of ingest.now) (P.files place.old) (P.files place.new) (P.left_at place.new (request_file stem.now)) stem.now e.fault e.session.lines e.session.refused) }
+    ensures ended { IfOk result (λ e. ClientEndAt ingest.now.dataset ingest.now.base (log_of ingest.now) (P.files place.old) (P.files place.new) (P.left_at place.new (request_file stem.now)) stem.now e.broken e.session.failed e.session.lines e.session.refused) }
     ensures only_left { (n : List ℕ) → n ≢ request_file stem.now → P.left_at place.new n ≡ P.left_at place.old n }
     ensures others { KeepsOthers (stem.now ∷ []) (P.files place.old) (P.files place.new) }
-    ensures whole { IfOk result (λ e. e.fault ≡ None → ClientDoneAt ingest.now stem.now (P.files place.old) (P.files place.new) e.session) }
-    ensures cause { IfOk result (λ e. FaultCause e.fault stem.now (record { reads = P.read_faults place.old; writes = P.write_faults place.old; counts = P.counts place.old }) (record { reads = P.read_faults place.new; writes = P.write_faults place.new; counts = P.counts place.new })) }
+    ensures cause { IfOk result (λ e. ClientCause e.broken e.session.failed stem.now (record { reads = P.read_faults place.old; writes = P.write_faults place.old; counts = P.counts place.old }) (record { reads = P.read_faults place.new; writes = P.write_faults place.new; counts = P.counts place.new })) }
     ensures reads { P.read_faults place.old ≤ P.read_faults place.new }
     ensures writes { P.write_faults place.old ≤ P.write_faults place.new }
 {

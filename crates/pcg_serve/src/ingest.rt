@@ -8,7 +8,7 @@ ghost use Rattle.record_rows.specs.Readings.{Image};
 ghost use Rattle.op_model.specs.Ingest.{ingested};
 ghost use Rattle.hierarchy_build.specs.declared.errors.BuildError.{BuildError as TheBuildError};
 ghost use Rattle.hierarchy_build.specs.Built.{IsFull};
-ghost use Rattle.pcg_serve.specs.Jobs.{dataset_of};
+ghost use Rattle.pcg_serve.specs.Jobs.{clock_time, dataset_of};
 ghost use Rattle.pcg_serve.specs.Ingests.{AreWords, IfBad, IsIngest, MakesStop, TellsStop};
 
 use crate::stops::Stop;
@@ -94,6 +94,7 @@ fn with_entry(
     ensures words { IfOk result (λ b. AreWords b.ingest b.words.words) }
     ensures dataset { IfOk result (λ b. b.ingest.dataset ≡ dataset) }
     ensures base { IfOk result (λ b. b.ingest.base ≡ base) }
+    ensures time { (at : ℕ) → Image dataset base (ingested dataset base at) words.words → IfOk result (λ b. b.ingest.entry.at ≡ at) }
 {
     let entry = entry(alloc, &mut words, 0)?;
     let records = words.len() / 8;
@@ -121,6 +122,7 @@ pub fn make_ingest(
     ensures words { IfOk result (λ b. AreWords b.ingest b.words.words) }
     ensures dataset { IfOk result (λ b. b.ingest.dataset ≡ dataset_of job.now) }
     ensures base { IfOk result (λ b. Spells (dataset_of job.now) supervoxels.now edges.now b.ingest.base) }
+    ensures time { IfOk result (λ b. b.ingest.entry.at ≡ clock_time job.now.clock 0) }
     ensures stop { IfErr result (λ stop. MakesStop (dataset_of job.now) supervoxels.now edges.now stop) }
 {
     let dataset = dataset_of(job);

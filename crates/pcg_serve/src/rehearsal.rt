@@ -3,11 +3,11 @@
 ghost use Rattle.std.specs.Prelude.{◌≡◌, ◌≤◌, ◌<◌, ◌⊎◌, ◌∷◌, ◌++◌, [], ℕ, IfOk, IfErr, IfSome, IfNone, OnOk, OnErr, false, true, length, vec_len, vec_capacity};
 ghost use Rattle.std.specs.Io.KnownBytes.{Appends};
 ghost use Rattle.pcg_base.specs.Causes.{HasCause, Rose};
-ghost use Rattle.pcg_base.specs.Told.{AppendsFront};
+ghost use Rattle.pcg_base.specs.Told.{AppendsFront, IsFlushed};
 ghost use Rattle.pcg_words.specs.Job.{IsJob};
 ghost use Rattle.request_lines.specs.Texts.{text_of_entry};
 ghost use Rattle.pcg_serve.specs.Causes.{EndsSo, HasBadTable, HasFullBase, HasLongTable, IsDue, IsUnbuilt, StatusSo, StopCause, has_one_client};
-ghost use Rattle.pcg_serve.specs.Headline.{CamePast, DoneAt, IsDone, IsQuiet, KeepsOthers, Outcome, Prints, fault_status, faults_of};
+ghost use Rattle.pcg_serve.specs.Headline.{CamePast, IsDone, IsFaultless, IsQuiet, KeepsOthers, Outcome, Prints, Sums, fault_of, fault_status, faults_of};
 ghost use Rattle.pcg_serve.specs.Statuses.{status_of};
 ghost use Rattle.pcg_serve.specs.Texts.{stop_text, summary_text};
 
@@ -42,13 +42,23 @@ fn only_client(job: &RehearseJob) -> Option<&Name>
     Some(&job.stems.list[0])
 }
 
+/// The fault that a session ended in, if it did in one. A reply whose writing failed comes first.
+#[tactic(auto, unfolding(crate::specs::Headline::fault_of))]
+fn fault_of(ended: Ended) -> Option<Fault>
+    ensures { result ≡ fault_of ended.session.failed ended.broken }
+{
+    if ended.session.failed {
+        Some(Fault::WriteFault)
+    } else if ended.broken {
+        Some(Fault::ReadFault)
+    } else {
+        None
+    }
+}
+
 /// The status that a session's end gives.
 fn status_of(fault: Option<Fault>) -> u8
-    ensures done { fault ≡ None → result ≡ 0 }
-    ensures read { fault ≡ Some Fault.ReadFault → result ≡ 2 }
-    ensures write { fault ≡ Some Fault.WriteFault → result ≡ 4 }
-    ensures known { (fault ≡ None) ⊎ (fault ≡ Some Fault.ReadFault) ⊎ (fault ≡ Some Fault.WriteFault) }
-    ensures zero { result ≡ 0 → fault ≡ None }
+    ensures { result ≡ fault_status fault }
 {
     match fault {
         None => 0,
@@ -59,9 +69,9 @@ fn status_of(fault: Option<Fault>) -> u8
 
 /// Puts the only client's fault into a list with room for it.
 fn put_fault(mut faults: Vec<ClientFault>, fault: Option<Fault>) -> Vec<ClientFault>
-    requires { vec_len faults < vec_capacity faults }
-    ensures none { fault ≡ None → result.items ≡ faults.items }
-    ensures one { IfSome fault (λ f. result.items ≡ faults.items ++ (record { client = 1; fault = f }) ∷ []) }
+    requires room { vec_len faults < vec_capacity faults }
+    requires empty { faults.items ≡ [] }
+    ensures { result.items ≡ faults_of fault }
 {
     if let Some(fault) = fault {
         let put = faults.push(ClientFault { client: 1, fault });
@@ -74,30 +84,19 @@ fn put_fault(mut faults: Vec<ClientFault>, fault: Option<Fault>) -> Vec<ClientFa
 fn summary_of(ingest: &Ingest, ended: Ended, faults: Vec<ClientFault>) -> Summary
     requires room { vec_len faults < vec_capacity faults }
     requires empty { faults.items ≡ [] }
-    ensures one { (result.accepted ≡ 0) × (result.clients ≡ 1) × (result.entries ≡ 1) }
-    ensures faults { ended.fault ≡ None → result.faults.items ≡ [] }
-    ensures all_faults { result.faults.items ≡ faults_of ended.fault }
-    ensures status { result.status ≡ fault_status ended.fault }
-    ensures lines { result.lines ≡ ended.session.lines }
-    ensures refused { result.refused ≡ ended.session.refused }
-    ensures records { result.records ≡ ingest.now.records }
-    ensures roots { result.roots ≡ length ingest.now.entry.made }
-    ensures read { ended.fault ≡ Some Fault.ReadFault → result.status ≡ 2 }
-    ensures write { ended.fault ≡ Some Fault.WriteFault → result.status ≡ 4 }
-    ensures done { ended.fault ≡ None → result.status ≡ 0 }
-    ensures known { (ended.fault ≡ None) ⊎ (ended.fault ≡ Some Fault.ReadFault) ⊎ (ended.fault ≡ Some Fault.WriteFault) }
-    ensures zero { result.status ≡ 0 → ended.fault ≡ None }
+    ensures { Sums ingest.now ended result }
 {
+    let fault = fault_of(ended);
     Summary {
         accepted: 0,
         clients: 1,
         entries: 1,
-        faults: put_fault(faults, ended.fault),
+        faults: put_fault(faults, fault),
         lines: ended.session.lines,
         records: ingest.records,
         refused: ended.session.refused,
         roots: ingest.entry.made.list.len() as u64,
-        status: status_of(ended.fault),
+        status: status_of(fault),
     }
 }
 
@@ -105,7 +104,6 @@ fn summary_of(ingest: &Ingest, ended: Ended, faults: Vec<ClientFault>) -> Summar
 fn rehearse<P: Place>(alloc: Global, job: &RehearseJob, place: &mut P) -> Result<Rehearsed, Stop>
     requires { IsJob job.now }
     ensures stop { IfErr result (λ stop. StopCause (P.files place.old) (P.files place.new) (P.left_at place.new) job.now (record { reads = P.read_faults place.old; writes = P.write_faults place.old; counts = P.counts place.old }) (record { reads = P.read_faults place.new; writes = P.write_faults place.new; counts = P.counts place.new }) stop) }
-    ensures done { IfOk result (λ r. r.summary.status ≡ 0 → DoneAt job.now (P.files place.old) (P.files place.new) (text_of_entry r.ingest.entry ++ summary_text r.summary)) }
     ensures came { IfOk result (λ r. CamePast (P.files place.old) (P.files place.new) (P.left_at place.new) job.now (record { reads = P.read_faults place.old; writes = P.write_faults place.old; counts = P.counts place.old }) (record { reads = P.read_faults place.new; writes = P.write_faults place.new; counts = P.counts place.new }) (text_of_entry r.ingest.entry ++ summary_text r.summary) r.summary.status) }
     ensures others { KeepsOthers job.now.stems (P.files place.old) (P.files place.new) }
     ensures status { IfOk result (λ r. EndsSo (P.read_faults place.old) (P.read_faults place.new) (P.write_faults place.old) (P.write_faults place.new) r.summary.status) }
@@ -132,6 +130,7 @@ fn rehearse<P: Place>(alloc: Global, job: &RehearseJob, place: &mut P) -> Result
 fn print<K: Sink>(done: &Rehearsed, out: &mut K) -> Result<(), Failed>
     ensures ok { OnOk result (Appends (K.held out.old) (K.held out.new) (text_of_entry done.now.ingest.entry ++ summary_text done.now.summary)) }
     ensures err { OnErr result (AppendsFront (K.held out.old) (K.held out.new) (text_of_entry done.now.ingest.entry ++ summary_text done.now.summary)) }
+    ensures flushed { OnOk result (IsFlushed (K.held out.new) (K.flushed out.new)) }
     ensures cause { HasCause (K.faults out.old) (K.faults out.new) result }
 {
     write_entry(&done.ingest.entry, out)?;
@@ -144,6 +143,8 @@ fn finish<K: Sink>(done: &Rehearsed, out: &mut K) -> u8
     ensures status { StatusSo (K.faults out.old) (K.faults out.new) done.now.summary.status result }
     ensures line { Prints (K.held out.old) (K.held out.new) (K.faults out.old) (K.faults out.new) (text_of_entry done.now.ingest.entry ++ summary_text done.now.summary) }
     ensures printed { result ≡ 0 → (done.now.summary.status ≡ 0) × Appends (K.held out.old) (K.held out.new) (text_of_entry done.now.ingest.entry ++ summary_text done.now.summary) }
+    ensures flushed { result ≡ 0 → IsFlushed (K.held out.new) (K.flushed out.new) }
+    ensures still { result ≡ 0 → K.faults out.new ≡ K.faults out.old }
     ensures later { K.faults out.old ≤ K.faults out.new }
 {
     let printed = print(done, out).is_ok();
@@ -185,6 +186,8 @@ pub fn run_rehearse<P: Place, K: Sink>(
 ) -> u8
     requires { IsJob job.now }
     ensures done { result ≡ 0 → IsDone job.now (P.files place.old) (P.files place.new) (K.held out.old) (K.held out.new) }
+    ensures flushed { result ≡ 0 → IsFlushed (K.held out.new) (K.flushed out.new) }
+    ensures faultless { result ≡ 0 → IsFaultless (P.read_faults place.old) (P.read_faults place.new) (P.write_faults place.old) (P.write_faults place.new) (K.faults out.old) (K.faults out.new) }
     ensures known { (result ≡ 0) ⊎ (result ≡ 2) ⊎ (result ≡ 4) ⊎ (result ≡ 3) ⊎ (result ≡ 5) ⊎ (result ≡ 7) ⊎ (result ≡ 8) ⊎ (result ≡ 6) }
     ensures read { result ≡ 2 → Rose (P.read_faults place.old) (P.read_faults place.new) }
     ensures write { result ≡ 4 → Rose (P.write_faults place.old) (P.write_faults place.new) ⊎ Rose (K.faults out.old) (K.faults out.new) }

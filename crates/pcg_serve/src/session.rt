@@ -1,10 +1,9 @@
 //! A client's session: each line of its requests gets one reply.
 
-ghost use Rattle.std.specs.Prelude.{◌≡◌, ◌≤◌, ◌<◌, ◌+◌, ◌^◌, ◌∷◌, [], Ok, length, IsTrue};
+ghost use Rattle.std.specs.Prelude.{◌≡◌, ◌≤◌, ◌<◌, ◌+◌, ◌^◌, ◌∷◌, [], Ok, length};
 ghost use Rattle.op_model.specs.declared.base.Dataset.{Dataset};
 ghost use Rattle.op_model.specs.declared.base.Base.{Base};
 ghost use Rattle.op_model.specs.declared.entry.Entry.{Entry};
-ghost use Rattle.pcg_base.specs.Causes.{Rose};
 ghost use Rattle.record_rows.specs.Readings.{Image};
 
 use crate::ingest::Ingest;
@@ -25,7 +24,7 @@ pub struct Session {
     pub failed: bool,
 }
 
-ghost use Rattle.pcg_serve.specs.Sessions.{Answers, Counts, Did, Replies, RepliesTo, asked_line, asked_of, line_of, refuses};
+ghost use Rattle.pcg_serve.specs.Sessions.{Answers, Counts, CountsSo, Did, Replies, RepliesTo, asked_line, asked_of, line_of, refuses};
 ghost use Rattle.pcg_serve.specs.Ingests.{AreWords, log_of};
 
 /// The reply to a request.
@@ -80,8 +79,7 @@ fn write_counted<K: Sink>(reply: &Reply, session: Session, out: &mut K) -> Sessi
     requires room { session.lines + 1 < 2 ^ 32 }
     requires refused { session.refused ≤ session.lines }
     ensures counts { Counts (K.held out.old) (K.held out.new) reply.now session result }
-    ensures cause { IsTrue result.failed → Rose (K.faults out.old) (K.faults out.new) }
-    ensures later { K.faults out.old ≤ K.faults out.new }
+    ensures cause { CountsSo result.failed (K.faults out.old) (K.faults out.new) }
     ensures few { (result.lines ≤ session.lines + 1) × (result.refused ≤ result.lines) }
 {
     if write_reply(reply, out).is_err() {
@@ -113,8 +111,7 @@ fn answer_line<K: Sink>(
     requires refused { session.refused ≤ session.lines }
     ensures same { words.new ≡ words.old }
     ensures replies { Replies ingest.now.dataset ingest.now.base (log_of ingest.now) (asked_line line.now) (K.held out.old) (K.held out.new) session result }
-    ensures cause { IsTrue result.failed → Rose (K.faults out.old) (K.faults out.new) }
-    ensures later { K.faults out.old ≤ K.faults out.new }
+    ensures cause { CountsSo result.failed (K.faults out.old) (K.faults out.new) }
     ensures few { (result.lines ≤ session.lines + 1) × (result.refused ≤ result.lines) }
 {
     let reply = reply_to(alloc, words, line);
@@ -134,8 +131,7 @@ pub fn serve<K: Sink>(
     requires size { length stream.now < 2 ^ 32 }
     ensures same { words.new ≡ words.old }
     ensures did { Did ingest.now.dataset ingest.now.base (log_of ingest.now) (asked_of stream.now) (K.held out.old) (K.held out.new) result }
-    ensures cause { IsTrue result.failed → Rose (K.faults out.old) (K.faults out.new) }
-    ensures later { K.faults out.old ≤ K.faults out.new }
+    ensures cause { CountsSo result.failed (K.faults out.old) (K.faults out.new) }
 {
     let mut session = Session {
         lines: 0,

@@ -3,7 +3,7 @@
 ghost use Rattle.std.specs.Prelude.{◌≡◌, ◌++◌, codes, decimal, OnOk, OnErr};
 ghost use Rattle.std.specs.Io.KnownBytes.{Appends};
 ghost use Rattle.pcg_base.specs.Causes.{HasCause};
-ghost use Rattle.pcg_base.specs.Told.{AppendsFront};
+ghost use Rattle.pcg_base.specs.Told.{AppendsFront, IsFlushed};
 ghost use Rattle.request_lines.specs.Sent.{Puts};
 ghost use Rattle.pcg_serve.specs.Texts.{file_name, of_capacity, of_chunk, of_file, of_table, stop_text};
 ghost use Rattle.table_ingest.specs.Faults.{cause_name, table_name};
@@ -179,11 +179,13 @@ fn put_stop<K: Sink>(page: &mut Page, out: &mut K, stop: Stop)
     }
 }
 
-/// Writes the fault line of a stop. It takes no memory. After `Failed` a front of it was written.
-#[tactic(auto, using(request_lines::proofs::Whole::whole_ok, request_lines::proofs::Whole::whole_err, request_lines::proofs::Whole::whole_cause))]
+/// Writes the fault line of a stop. It takes no memory. Behind it all that the sink holds is
+/// flushed. After `Failed` a front of it was written.
+#[tactic(auto, using(request_lines::proofs::Whole::whole_ok))]
 pub fn write_stop<K: Sink>(stop: Stop, out: &mut K) -> Result<(), Failed>
     ensures ok { OnOk result (Appends (K.held out.old) (K.held out.new) (stop_text stop)) }
     ensures err { OnErr result (AppendsFront (K.held out.old) (K.held out.new) (stop_text stop)) }
+    ensures flushed { OnOk result (IsFlushed (K.held out.new) (K.flushed out.new)) }
     ensures cause { HasCause (K.faults out.old) (K.faults out.new) result }
 {
     let mut page = Page::new();

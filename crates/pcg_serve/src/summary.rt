@@ -3,7 +3,7 @@
 ghost use Rattle.std.specs.Prelude.{◌≡◌, ◌++◌, codes, decimal, OnOk, OnErr};
 ghost use Rattle.std.specs.Io.KnownBytes.{Appends};
 ghost use Rattle.pcg_base.specs.Causes.{HasCause};
-ghost use Rattle.pcg_base.specs.Told.{AppendsFront};
+ghost use Rattle.pcg_base.specs.Told.{AppendsFront, IsFlushed};
 ghost use Rattle.request_lines.specs.Sent.{Puts};
 ghost use Rattle.pcg_serve.specs.Texts.{client_fault_text, fault_name, summary_text};
 
@@ -90,11 +90,13 @@ fn put_summary<K: Sink>(page: &mut Page, out: &mut K, summary: &Summary)
     page.put(out, b"}\n");
 }
 
-/// Writes a summary. It takes no memory. After `Failed` a front of it was written.
-#[tactic(auto, using(request_lines::proofs::Whole::whole_ok, request_lines::proofs::Whole::whole_err, request_lines::proofs::Whole::whole_cause))]
+/// Writes a summary. It takes no memory. Behind it all that the sink holds is
+/// flushed. After `Failed` a front of it was written.
+#[tactic(auto, using(request_lines::proofs::Whole::whole_ok))]
 pub fn write_summary<K: Sink>(summary: &Summary, out: &mut K) -> Result<(), Failed>
     ensures ok { OnOk result (Appends (K.held out.old) (K.held out.new) (summary_text summary.now)) }
     ensures err { OnErr result (AppendsFront (K.held out.old) (K.held out.new) (summary_text summary.now)) }
+    ensures flushed { OnOk result (IsFlushed (K.held out.new) (K.flushed out.new)) }
     ensures cause { HasCause (K.faults out.old) (K.faults out.new) result }
 {
     let mut page = Page::new();

@@ -5,7 +5,7 @@ ghost use Rattle.pcg_base.specs.Told.{KeepsFiles};
 ghost use Rattle.pcg_words.specs.Job.{IsJob};
 ghost use Rattle.pcg_serve.specs.Causes.{IsLater, TableStop, TablesRead, TablesStop, WasRead};
 ghost use Rattle.pcg_serve.specs.Ingests.{AreWords, IsIngest};
-ghost use Rattle.pcg_serve.specs.Jobs.{HasBase, HasTable, dataset_of};
+ghost use Rattle.pcg_serve.specs.Jobs.{HasBase, HasTable, clock_time, dataset_of};
 
 use crate::ingest::{Begun, make_ingest};
 use crate::stops::{FileName, Stop};
@@ -26,6 +26,7 @@ fn read_table<P: Place>(
     ensures table { IfOk result (λ t. HasTable (P.files place.old) name.now t.items) }
     ensures size { IfOk result (λ t. length t.items ≤ 1073741824) }
     ensures whole { OnOk result (WasRead (P.files place.old) (P.left_at place.new) name.now) }
+    ensures still { OnOk result (P.read_faults place.new ≡ P.read_faults place.old) }
     ensures stop { IfErr result (λ stop. TableStop (P.files place.old) name.now file (record { reads = P.read_faults place.old; writes = P.write_faults place.old; counts = P.counts place.old }) (record { reads = P.read_faults place.new; writes = P.write_faults place.new; counts = P.counts place.new }) stop) }
     ensures later { IsLater (record { reads = P.read_faults place.old; writes = P.write_faults place.old; counts = P.counts place.old }) (record { reads = P.read_faults place.new; writes = P.write_faults place.new; counts = P.counts place.new }) }
     ensures files { KeepsFiles (P.files place.old) (P.files place.new) }
@@ -48,7 +49,9 @@ pub fn read_tables<P: Place>(alloc: Global, job: &RehearseJob, place: &mut P) ->
     ensures words { IfOk result (λ b. AreWords b.ingest b.words.words) }
     ensures dataset { IfOk result (λ b. b.ingest.dataset ≡ dataset_of job.now) }
     ensures base { IfOk result (λ b. HasBase (P.files place.old) job.now b.ingest.base) }
+    ensures time { IfOk result (λ b. b.ingest.entry.at ≡ clock_time job.now.clock 0) }
     ensures read { OnOk result (TablesRead (P.files place.old) (P.left_at place.new) job.now) }
+    ensures still { OnOk result (P.read_faults place.new ≡ P.read_faults place.old) }
     ensures stop { IfErr result (λ stop. TablesStop (P.files place.old) (P.left_at place.new) job.now (record { reads = P.read_faults place.old; writes = P.write_faults place.old; counts = P.counts place.old }) (record { reads = P.read_faults place.new; writes = P.write_faults place.new; counts = P.counts place.new }) stop) }
     ensures later { IsLater (record { reads = P.read_faults place.old; writes = P.write_faults place.old; counts = P.counts place.old }) (record { reads = P.read_faults place.new; writes = P.write_faults place.new; counts = P.counts place.new }) }
     ensures files { KeepsFiles (P.files place.old) (P.files place.new) }

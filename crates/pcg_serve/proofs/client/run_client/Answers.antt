@@ -1,31 +1,41 @@
 use Rattle.std.proofs.Common.{◌≡◌, List, [], ◌∷◌, ℕ, subst, sym, rules}
 use Rattle.pcg_base.specs.Told.{PutsHeld, TellsTo}
 use Rattle.pcg_words.specs.Job.{request_file}
+use Rattle.pcg_serve.proofs.Causing.{client_caused}
 use Rattle.pcg_serve.proofs.Ending.{ended_so}
-use Rattle.pcg_serve.proofs.ClientLemmas.{done_so}
 use Rattle.pcg_serve.proofs.Others.{others_then, others_kept, others_put, others_held}
-use Rattle.pcg_serve.proofs.Stopping.{stops_so}
+use Rattle.pcg_serve.proofs.Stopping.{stops_so, was_begun, was_still}
 use Rattle.pcg_serve.proofs.client.run_client.Goals as goal
 
 pub returns-clause-stop : goal.returns-clause-stop
 returns-clause-stop g c =
+    let requests : List ℕ = request_file c.args.stem.now in
+    let after = g.P.In.Source.left c.serve_stream-found.new.source in
     let N : List ℕ → Type 0 = λ n. PutsHeld (g.P.Place.files c.keep_in-2.new.self) (g.P.Place.files c.keep_out.new.self) n (g.P.Out.Sink.held c.serve_stream-found.new.sink) in
+    let L : List ℕ → Type 0 = λ n. TellsTo (g.P.Place.files c.sink_of.new.self) after (g.P.Place.left_at c.keep_in-2.new.self n) in
+    let K : List ℕ → Type 0 = λ left. TellsTo (g.P.Place.files c.sink_of.new.self) after left in
     let one : c.as_str-4.result.now ≡ c.as_str-2.result.now = search rules in
+    let named : c.as_str-3.result.now ≡ requests = search rules in
+    let begun = was_begun c.args.stem.now c.as_str.result.now c.as_str-2.result.now (g.P.Place.files c.args.place.now) (g.P.Place.files c.source_of.new.self) (g.P.Place.files c.sink_of.new.self)
+    (g.P.Place.left_at c.keep_out.new.self) (g.P.In.Source.left c.in-Ok-source_of.source) after (search rules) c.source_of.ensures.files c.in-Ok-source_of.ensures.bytes c.in-Ok-sink_of.ensures.made
+    c.serve_stream-found.ensures.front (subst K (sym (c.keep_out.ensures.left requests)) (subst L named c.keep_in-2.ensures.left)) in
+    let still = was_still
+    (record { reads = g.P.Place.read_faults c.args.place.now; writes = g.P.Place.write_faults c.args.place.now; counts = g.P.Place.counts c.args.place.now })
+    (record { reads = g.P.Place.read_faults c.source_of.new.self; writes = g.P.Place.write_faults c.source_of.new.self; counts = g.P.Place.counts c.source_of.new.self })
+    (record { reads = g.P.Place.read_faults c.sink_of.new.self; writes = g.P.Place.write_faults c.sink_of.new.self; counts = g.P.Place.counts c.sink_of.new.self })
+    (record { reads = g.P.Place.read_faults c.keep_in-2.new.self; writes = g.P.Place.write_faults c.keep_in-2.new.self; counts = g.P.Place.counts c.keep_in-2.new.self })
+    (record { reads = g.P.Place.read_faults c.keep_out.new.self; writes = g.P.Place.write_faults c.keep_out.new.self; counts = g.P.Place.counts c.keep_out.new.self })
+    (g.P.In.Source.faults c.in-Ok-source_of.source) (g.P.In.Source.faults c.serve_stream-found.new.source) (g.P.Out.Sink.faults c.in-Ok-sink_of.sink) (g.P.Out.Sink.faults c.serve_stream-found.new.sink) c.serve_stream-found.result
+    c.in-Ok-source_of.ensures.still c.source_of.ensures.other_kind c.sink_of.ensures.other_kind c.in-Ok-sink_of.ensures.still c.keep_in-2.ensures.total c.keep_in-2.ensures.later c.keep_in-2.ensures.other_kind
+    c.keep_out.ensures.total c.keep_out.ensures.later c.keep_out.ensures.other_kind c.in-Ok-source_of.ensures.fresh c.in-Ok-sink_of.ensures.fresh c.serve_stream-found.ensures.unread c.serve_stream-found.ensures.unfailed in
     stops_so c.args.stem.now c.as_str.result.now c.as_str-2.result.now (g.P.Place.files c.args.place.now) (g.P.Place.files c.source_of.new.self)
     (g.P.Place.files c.sink_of.new.self) (g.P.Place.files c.keep_in-2.new.self) (g.P.Place.files c.keep_out.new.self) (g.P.Place.left_at c.keep_out.new.self)
-    (g.P.In.Source.left c.in-Ok-source_of.source) (g.P.Out.Sink.held c.in-Ok-sink_of.sink) (g.P.Out.Sink.held c.serve_stream-found.new.sink) _ _ c.serve_stream-found.result
-    (search rules) (search rules) c.source_of.ensures.files c.in-Ok-source_of.ensures.bytes (search rules) c.in-Ok-sink_of.ensures.empty c.keep_in-2.ensures.files (subst N one c.keep_out.ensures.bytes)
-    c.serve_stream-found.ensures.unwritten c.serve_stream-found.ensures.kinds c.serve_stream-found.ensures.long
-
-pub returns-clause-whole : goal.returns-clause-whole
-returns-clause-whole g c =
-    let N : List ℕ → Type 0 = λ n. PutsHeld (g.P.Place.files c.keep_in-2.new.self) (g.P.Place.files c.keep_out.new.self) n (g.P.Out.Sink.held c.serve_stream-found.new.sink) in
-    let one : c.as_str-4.result.now ≡ c.as_str-2.result.now = search rules in
-    done_so c.args.ingest.now c.args.stem.now c.as_str.result.now c.as_str-2.result.now (g.P.Place.files c.args.place.now) (g.P.Place.files c.source_of.new.self)
-    (g.P.Place.files c.sink_of.new.self) (g.P.Place.files c.keep_in-2.new.self) (g.P.Place.files c.keep_out.new.self)
-    (g.P.In.Source.left c.in-Ok-source_of.source) (g.P.Out.Sink.held c.in-Ok-sink_of.sink) (g.P.Out.Sink.held c.serve_stream-found.new.sink) c.serve_stream-found.result
-    (search rules) (search rules) c.source_of.ensures.files c.in-Ok-source_of.ensures.bytes (search rules) c.in-Ok-sink_of.ensures.empty c.keep_in-2.ensures.files (subst N one c.keep_out.ensures.bytes)
-    c.serve_stream-found.ensures.whole
+    (g.P.In.Source.left c.in-Ok-source_of.source) (g.P.Out.Sink.held c.in-Ok-sink_of.sink) (g.P.Out.Sink.held c.serve_stream-found.new.sink)
+    (record { reads = g.P.Place.read_faults c.args.place.now; writes = g.P.Place.write_faults c.args.place.now; counts = g.P.Place.counts c.args.place.now })
+    (record { reads = g.P.Place.read_faults c.keep_out.new.self; writes = g.P.Place.write_faults c.keep_out.new.self; counts = g.P.Place.counts c.keep_out.new.self })
+    c.serve_stream-found.result
+    (search rules) (search rules) c.source_of.ensures.files c.in-Ok-source_of.ensures.bytes c.in-Ok-sink_of.ensures.made c.in-Ok-sink_of.ensures.empty c.keep_in-2.ensures.files (subst N one c.keep_out.ensures.bytes)
+    c.serve_stream-found.ensures.unwritten c.serve_stream-found.ensures.kinds c.serve_stream-found.ensures.long begun still
 
 pub returns-clause-others : goal.returns-clause-others
 returns-clause-others g c =
@@ -55,6 +65,22 @@ returns-clause-ended g c =
     f2 (g.P.Place.files c.keep_in-2.new.self) (g.P.Place.files c.keep_out.new.self)
     (g.P.In.Source.left c.in-Ok-source_of.source) after (g.P.Out.Sink.held c.in-Ok-sink_of.sink) (g.P.Out.Sink.held c.serve_stream-found.new.sink)
     (g.P.Place.left_at c.keep_out.new.self requests) c.serve_stream-found.result c.requires.ingest
-    (search rules) (search rules) c.source_of.ensures.files c.in-Ok-source_of.ensures.bytes (search rules) c.in-Ok-sink_of.ensures.empty c.keep_in-2.ensures.files
+    (search rules) (search rules) c.source_of.ensures.files c.in-Ok-source_of.ensures.bytes c.in-Ok-sink_of.ensures.made c.in-Ok-sink_of.ensures.empty c.keep_in-2.ensures.files
     (subst K (sym (c.keep_out.ensures.left requests)) (subst L named c.keep_in-2.ensures.left))
     (subst N one c.keep_out.ensures.bytes) c.serve_stream-found.ensures.ended
+
+pub returns-clause-cause : goal.returns-clause-cause
+returns-clause-cause g c =
+    client_caused c.args.stem.now c.as_str.result.now c.as_str-2.result.now c.as_str-3.result.now c.as_str-4.result.now
+    (record { reads = g.P.Place.read_faults c.args.place.now; writes = g.P.Place.write_faults c.args.place.now; counts = g.P.Place.counts c.args.place.now })
+    (record { reads = g.P.Place.read_faults c.source_of.new.self; writes = g.P.Place.write_faults c.source_of.new.self; counts = g.P.Place.counts c.source_of.new.self })
+    (record { reads = g.P.Place.read_faults c.sink_of.new.self; writes = g.P.Place.write_faults c.sink_of.new.self; counts = g.P.Place.counts c.sink_of.new.self })
+    (record { reads = g.P.Place.read_faults c.keep_in-2.new.self; writes = g.P.Place.write_faults c.keep_in-2.new.self; counts = g.P.Place.counts c.keep_in-2.new.self })
+    (record { reads = g.P.Place.read_faults c.keep_out.new.self; writes = g.P.Place.write_faults c.keep_out.new.self; counts = g.P.Place.counts c.keep_out.new.self })
+    (g.P.In.Source.faults c.in-Ok-source_of.source) (g.P.In.Source.faults c.serve_stream-found.new.source) (g.P.Out.Sink.faults c.in-Ok-sink_of.sink) (g.P.Out.Sink.faults c.serve_stream-found.new.sink) c.serve_stream-found.result
+    (search rules) (search rules) (search rules) (search rules)
+    c.source_of.ensures.only_here c.source_of.ensures.only_kind c.in-Ok-source_of.ensures.still c.source_of.ensures.other_kind
+    c.sink_of.ensures.only_here c.sink_of.ensures.only_kind c.sink_of.ensures.other_kind c.in-Ok-sink_of.ensures.still
+    c.keep_in-2.ensures.only_here c.keep_in-2.ensures.here c.keep_in-2.ensures.total c.keep_in-2.ensures.later c.keep_in-2.ensures.other_kind
+    c.keep_out.ensures.only_here c.keep_out.ensures.here c.keep_out.ensures.total c.keep_out.ensures.later c.keep_out.ensures.other_kind
+    c.in-Ok-source_of.ensures.fresh c.in-Ok-sink_of.ensures.fresh c.serve_stream-found.ensures.reads c.serve_stream-found.ensures.writes

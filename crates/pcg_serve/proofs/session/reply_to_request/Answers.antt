@@ -1,4 +1,4 @@
-use Rattle.std.proofs.Common.{◌≡◌, ◌∷◌, [], Ok, subst, sym}
+use Rattle.std.proofs.Common.{◌∷◌, [], Ok, subst, sym}
 use Rattle.op_model.specs.declared.request.Request.{Request}
 use Rattle.record_rows.proofs.ImageFacts.{parent_image}
 use Rattle.pcg_serve.specs.Sessions.{Answers, line_of}

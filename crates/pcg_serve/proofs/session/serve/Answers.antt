@@ -1,4 +1,4 @@
-use Rattle.std.proofs.Common.{rules, refl, sym, ◌∙◌, ap, subst, arith}
+use Rattle.std.proofs.Common.{rules, refl, sym, ◌∙◌, subst, arith}
 use Rattle.pcg_serve.specs.Ingests.{AreWords, log_of}
 use Rattle.pcg_serve.proofs.Serving.{starts, next, last_line, ends}
 use Rattle.pcg_serve.proofs.session.serve.Goals as goal
@@ -10,7 +10,7 @@ loop-line-init g c = record {
   failed = refl;
   few = omega arith;
   refused = omega arith;
-  later = omega arith;
+  still = refl;
 }
 
 pub returns-then-session-clause-did : goal.returns-then-session-clause-did
@@ -28,7 +28,7 @@ loop-line-preserved g c = record {
   failed = search rules;
   few = omega (arith, c.in-Some.ensures.shorter, c.answer_line-session.ensures.few);
   refused = omega (arith, c.answer_line-session.ensures.few);
-  later = omega (arith, c.answer_line-session.ensures.later);
+  still = search rules;
 }
 
 pub returns-clause-did : goal.returns-clause-did

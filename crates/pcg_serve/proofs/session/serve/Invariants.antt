@@ -10,7 +10,7 @@ invariant-loop-line g l = record {
   failed : l.session.failed ≡ false;
   few : l.session.lines + length l.rest ≤ length l.fn.stream;
   refused : l.session.refused ≤ l.session.lines;
-  later : g.K.Sink.faults l.fn.out ≤ g.K.Sink.faults l.out;
+  still : g.K.Sink.faults l.out ≡ g.K.Sink.faults l.fn.out;
 }
 
 abbrev pub decreases-loop-line : goal.decreases-loop-line

@@ -1,4 +1,4 @@
-use Rattle.std.proofs.Common.{rules}
+use Rattle.std.proofs.Common.{◌∙◌, rules}
 use Rattle.pcg_serve.proofs.TableLemmas.{both_read, second_stop, spelled_so, third_so}
 use Rattle.pcg_serve.proofs.Later.{on_ok}
 use Rattle.pcg_serve.proofs.tables.read_tables.Goals as goal
@@ -30,3 +30,6 @@ returns-clause-read g c =
     let read = both_read (g.P.Place.files c.args.place.now) (g.P.Place.files c.read_table.new.place) (g.P.Place.left_at c.read_table.new.place) (g.P.Place.left_at c.read_table-2.new.place) c.args.job.now
     c.requires c.read_table.ensures.files c.in_ok-supervoxels.ensures.whole c.read_table-2.ensures.only_left c.in-Ok.ensures.whole in
     on_ok c.make_ingest.result read
+
+pub returns-clause-still : goal.returns-clause-still
+returns-clause-still g c = on_ok c.make_ingest.result (c.in-Ok.ensures.still ∙ c.in_ok-supervoxels.ensures.still)
