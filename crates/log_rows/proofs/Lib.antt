@@ -1,8 +1,15 @@
 pub mod EntryWords
 pub mod KindCodes
 pub mod WalkBack
+pub mod Halves
 pub mod TimeLemmas
+pub mod TimePlaces
 pub mod EntryParts
+pub mod Seeks
+pub mod NextEntries
 pub mod ChainWalk
 pub mod ChangeWords
 pub mod ItemWords
+pub mod ChangeOrder
+pub mod AboutChanges
+pub mod TurnWalks

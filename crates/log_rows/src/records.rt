@@ -1,16 +1,13 @@
 //! The record of one entry, and the way to the entry before.
 
-ghost use Rattle.std.specs.Prelude.{◌≡◌, ◌-◌, List, length};
-ghost use Rattle.op_model.specs.declared.base.Dataset.{Dataset};
-ghost use Rattle.op_model.specs.declared.base.Base.{Base};
+ghost use Rattle.std.specs.Prelude.{◌≡◌, ◌-◌, length};
 ghost use Rattle.op_model.specs.declared.entry.Asked.{Asked};
-ghost use Rattle.op_model.specs.declared.entry.Entry.{Entry};
 ghost use Rattle.op_model.specs.Answers.{kind_of};
 ghost use Rattle.record_rows.specs.Chains.{entry_before};
 ghost use Rattle.record_rows.specs.Words.{kind_code};
 ghost use Rattle.record_rows.specs.LogRows.{rows_of};
-ghost use Rattle.record_rows.specs.Readings.{ParentImage, first_place};
-ghost use Rattle.log_rows.specs.Entries.{AtEntry, HoldsEntry};
+ghost use Rattle.record_rows.specs.Readings.{ForEachLog, ParentImage, first_place};
+ghost use Rattle.log_rows.specs.Entries.{AtEntry, ForEntryAt, HasLog};
 ghost use Rattle.log_rows.specs.Heads.{head_of};
 
 use op_model::Kind;
@@ -34,17 +31,25 @@ pub struct Head {
 
 /// The place of the last record, which is that of the newest entry.
 pub fn newest<W: Words>(w: &W) -> Spot
-    requires image { (d : Dataset) × (b : Base) × (log : List Entry) × ParentImage d b log (W.words w.now) }
-    ensures is { (d : Dataset) (b : Base) (log : List Entry) → ParentImage d b log (W.words w.now) → result ≡ length (rows_of d b log) - 1 }
+    requires image { HasLog ParentImage (W.words w.now) }
+    ensures is { ForEachLog ParentImage (W.words w.now) (λ d b log. result ≡ length (rows_of d b log) - 1) }
 {
     Spot((w.len() / 8 - 1) as u32)
+}
+
+/// How many records there are.
+pub fn count<W: Words>(w: &W) -> u32
+    requires image { HasLog ParentImage (W.words w.now) }
+    ensures is { ForEachLog ParentImage (W.words w.now) (λ d b log. result ≡ length (rows_of d b log)) }
+{
+    (w.len() / 8) as u32
 }
 
 /// The number of the entry whose record stands there.
 pub fn number<W: Words>(w: &mut W, entry: Spot) -> u32
     requires entry { AtEntry (W.words w.old) entry }
     ensures same { w.new ≡ w.old }
-    ensures is { (d : Dataset) (b : Base) (log : List Entry) (e : Entry) → ParentImage d b log (W.words w.old) → HoldsEntry d b log entry e → result ≡ e.number }
+    ensures is { ForEntryAt ParentImage (W.words w.old) entry (λ d b log e. result ≡ e.number) }
 {
     fixed(w, entry, 3) as u32
 }
@@ -53,7 +58,7 @@ pub fn number<W: Words>(w: &mut W, entry: Spot) -> u32
 pub fn time<W: Words>(w: &mut W, entry: Spot) -> u64
     requires entry { AtEntry (W.words w.old) entry }
     ensures same { w.new ≡ w.old }
-    ensures is { (d : Dataset) (b : Base) (log : List Entry) (e : Entry) → ParentImage d b log (W.words w.old) → HoldsEntry d b log entry e → result ≡ e.at }
+    ensures is { ForEntryAt ParentImage (W.words w.old) entry (λ d b log e. result ≡ e.at) }
 {
     fixed(w, entry, 1)
 }
@@ -62,7 +67,7 @@ pub fn time<W: Words>(w: &mut W, entry: Spot) -> u64
 pub fn before<W: Words>(w: &mut W, entry: Spot) -> Option<Spot>
     requires entry { AtEntry (W.words w.old) entry }
     ensures same { w.new ≡ w.old }
-    ensures is { (d : Dataset) (b : Base) (log : List Entry) (e : Entry) → ParentImage d b log (W.words w.old) → HoldsEntry d b log entry e → result ≡ first_place (entry_before e.number) (rows_of d b log) }
+    ensures is { ForEntryAt ParentImage (W.words w.old) entry (λ d b log e. result ≡ first_place (entry_before e.number) (rows_of d b log)) }
 {
     pointer(w, entry, 6)
 }
@@ -71,7 +76,7 @@ pub fn before<W: Words>(w: &mut W, entry: Spot) -> Option<Spot>
 pub fn head_at<W: Words>(w: &mut W, entry: Spot) -> Head
     requires entry { AtEntry (W.words w.old) entry }
     ensures same { w.new ≡ w.old }
-    ensures is { (d : Dataset) (b : Base) (log : List Entry) (e : Entry) → ParentImage d b log (W.words w.old) → HoldsEntry d b log entry e → result ≡ head_of e }
+    ensures is { ForEntryAt ParentImage (W.words w.old) entry (λ d b log e. result ≡ head_of e) }
 {
     let first = fixed(w, entry, 0);
     let at = fixed(w, entry, 1);

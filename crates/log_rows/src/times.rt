@@ -1,14 +1,15 @@
 //! Which entries were there at a time.
 
-ghost use Rattle.std.specs.Prelude.{◌≡◌, List};
-ghost use Rattle.op_model.specs.declared.base.Dataset.{Dataset};
-ghost use Rattle.op_model.specs.declared.base.Base.{Base};
-ghost use Rattle.op_model.specs.declared.entry.Entry.{Entry};
-ghost use Rattle.record_rows.specs.Readings.{ParentImage};
+ghost use Rattle.std.specs.Prelude.{◌≡◌};
+ghost use Rattle.record_rows.specs.Readings.{ForEachLog, ParentImage};
+ghost use Rattle.log_rows.specs.Entries.{HasLog};
 ghost use Rattle.log_rows.specs.Times.{count_to, prefix_of_time};
 
-use crate::records::{before, newest, number, time};
+use crate::heads::entry_spot;
+use crate::records::{count, newest, number, time};
+use crate::seeking::next_own;
 use pcg_base::Words;
+use row_words::Spot;
 
 /// Why no entries are told for a time.
 #[derive(Clone, Copy, PartialEq, Eq, Debug, Drop)]
@@ -22,9 +23,9 @@ pub enum TimeRefusal {
 /// How many entries there were at the time `t`, in milliseconds: those with a timestamp of at most
 /// `t`.
 pub fn prefix_at<W: Words>(w: &mut W, t: u64) -> Result<u32, TimeRefusal>
-    requires image { (d : Dataset) × (b : Base) × (log : List Entry) × ParentImage d b log (W.words w.old) }
+    requires image { HasLog ParentImage (W.words w.old) }
     ensures same { w.new ≡ w.old }
-    ensures is { (d : Dataset) (b : Base) (log : List Entry) → ParentImage d b log (W.words w.old) → result ≡ prefix_of_time log t }
+    ensures is { ForEachLog ParentImage (W.words w.old) (λ d b log. result ≡ prefix_of_time log t) }
 {
     let last = newest(w);
     let latest = time(w, last);
@@ -36,18 +37,28 @@ pub fn prefix_at<W: Words>(w: &mut W, t: u64) -> Result<u32, TimeRefusal>
 
 /// How many entries have a timestamp of at most `t`, in milliseconds.
 fn count_to<W: Words>(w: &mut W, t: u64) -> Result<u32, TimeRefusal>
-    requires image { (d : Dataset) × (b : Base) × (log : List Entry) × ParentImage d b log (W.words w.old) }
+    requires image { HasLog ParentImage (W.words w.old) }
     ensures same { w.new ≡ w.old }
-    ensures is { (d : Dataset) (b : Base) (log : List Entry) → ParentImage d b log (W.words w.old) → result ≡ count_to log t }
+    ensures is { ForEachLog ParentImage (W.words w.old) (λ d b log. result ≡ count_to log t) }
 {
-    let mut spot = newest(w);
-    while time(w, spot) > t {
-        let Some(older) = before(w, spot) else {
-            return Err(TimeRefusal::TooEarly {
-                first: time(w, spot),
-            });
-        };
-        spot = older;
+    let start = entry_spot(w, 0);
+    let first = time(w, start);
+    if t < first {
+        return Err(TimeRefusal::TooEarly { first });
     }
-    Ok(number(w, spot) + 1)
+    let count = count(w);
+    let mut low = start.0;
+    let mut high = count;
+    let mut found = 0;
+    while low < high {
+        let middle = low + (high - low) / 2;
+        let own = next_own(w, middle, count);
+        if time(w, Spot(own)) <= t {
+            low = own + 1;
+            found = number(w, Spot(own));
+        } else {
+            high = middle;
+        }
+    }
+    Ok(found + 1)
 }

@@ -1,4 +1,4 @@
--- The records of entries in the order of their places: those that name entries name them in their order, and an entry's own record is the last that names it.
+-- The records of entries in the order of their places: those that name entries name them in their order, and an entry's own record is the last of its records.
 use Rattle.std.proofs.Common.{◌≡◌, ℕ, zero, suc, ◌+◌, ◌-◌, ◌*◌, ◌%◌, ◌^◌, ◌<◌, ◌≤◌, true, false, ◌||◌, eqb, List, [], ◌∷◌, ◌++◌, length, take, get_or, Some, refl, sym, ◌∙◌, ap, subst, inl, inr, ◌⊎◌, arith, length-append}
 use Rattle.std.specs.List.{AllByRecursion, slice_get}
 use Rattle.std.proofs.lemmas.Bool.{false≢true, eqb-true, or_cases}
@@ -20,10 +20,12 @@ use Rattle.record_rows.proofs.ParentMeaning.{links_entry}
 use Rattle.record_rows.proofs.RowFacts.{all_at, all_base, all_entry, nodes_made}
 use Rattle.record_rows.proofs.EntryRecords.{NoEntry, entry_told, get_cases, front, front_then, no_front, number_told, stands_at}
 
--- the number of the entry that the record names, if it names one, is this
+-- so it is for the number of the entry that the record names, if it names one
 abbrev pub Names : (ℕ → Type 0) → Row → Type 0
 Names P (NodeRow n) = P n.made
 Names P (LinkRow l) = P l.entry
+Names P (EdgeRow made e) = P made
+Names P (ChangeRow entry c) = P entry
 Names P (EntryRow e) = P e.number
 Names P row = Unit {0}
 
@@ -39,12 +41,16 @@ Ends r s = Unit {0}
 names_more : (P Q : ℕ → Type 0) → ((k : ℕ) → P k → Q k) → (row : Row) → Names P row → Names Q row
 names_more P Q f (NodeRow n) h = f n.made h
 names_more P Q f (LinkRow l) h = f l.entry h
+names_more P Q f (EdgeRow made e) h = f made h
+names_more P Q f (ChangeRow entry c) h = f entry h
 names_more P Q f (EntryRow e) h = f e.number h
 names_more P Q f row h = tt
 
 names_all : (P : ℕ → Type 0) → ((k : ℕ) → P k) → (row : Row) → Names P row
 names_all P f (NodeRow n) = f n.made
 names_all P f (LinkRow l) = f l.entry
+names_all P f (EdgeRow made e) = f made
+names_all P f (ChangeRow entry c) = f entry
 names_all P f (EntryRow e) = f e.number
 names_all P f row = tt
 
@@ -56,8 +62,8 @@ apart_order n (EntryRow e) s a b = (names_more (λ k. n ≤ k) (λ k. e.number �
 apart_order n (HeaderRow d x y) s a b = (tt, tt)
 apart_order n (SupervoxelRow v) s a b = (tt, tt)
 apart_order n (ChunkRow c) s a b = (tt, tt)
-apart_order n (EdgeRow made e) s a b = (tt, tt)
-apart_order n (ChangeRow entry c) s a b = (tt, tt)
+apart_order n (EdgeRow made e) s a b = (names_more (λ k. n ≤ k) (λ k. made ≤ k) (λ k q. omega arith) s b, tt)
+apart_order n (ChangeRow entry c) s a b = (names_more (λ k. n ≤ k) (λ k. entry ≤ k) (λ k q. omega arith) s b, tt)
 apart_order n (ItemRow i) s a b = (tt, tt)
 
 -- two records of one entry, of which the first isn't the entry's own
@@ -69,8 +75,8 @@ one_order n (EntryRow e) s u a b = cc
 one_order n (HeaderRow d x y) s u a b = (tt, tt)
 one_order n (SupervoxelRow v) s u a b = (tt, tt)
 one_order n (ChunkRow c) s u a b = (tt, tt)
-one_order n (EdgeRow made e) s u a b = (tt, tt)
-one_order n (ChangeRow entry c) s u a b = (tt, tt)
+one_order n (EdgeRow made e) s u a b = (names_more (λ k. k ≡ n) (λ k. made ≤ k) (λ k q. omega arith) s b, tt)
+one_order n (ChangeRow entry c) s u a b = (names_more (λ k. k ≡ n) (λ k. entry ≤ k) (λ k q. omega arith) s b, tt)
 one_order n (ItemRow i) s u a b = (tt, tt)
 
 all_front : (P : Row → Type 0) (xs ys : List Row) → AllByRecursion P (xs ++ ys) → AllByRecursion P xs
@@ -97,7 +103,7 @@ module _ (d : Dataset) (b : Base) where
 
   -- the records of an entry name it
   entry_named : (log : List Entry) (e : Entry) → AllByRecursion (Names (λ k. k ≡ e.number)) (entry_rows d b log e)
-  entry_named log e = all_entry d b (Names (λ k. k ≡ e.number)) log e (λ x. tt) (λ i. tt) (λ c. tt) (nodes_made d b (e ∷ log) e.number) (links_entry d b (e ∷ log) e.number) refl
+  entry_named log e = all_entry d b (Names (λ k. k ≡ e.number)) log e (λ x. refl) (λ i. tt) (λ c. refl) (nodes_made d b (e ∷ log) e.number) (links_entry d b (e ∷ log) e.number) refl
 
   -- the records of a log name its entries
   pub named_below : (log : List Entry) → Whole d b log → AllByRecursion (Names (λ k. k < length log)) (rows_of d b log)

@@ -160,16 +160,6 @@ module _ (d : Dataset) (b : Base) (log : List Entry) (words : List ℕ) (n : ℕ
       go [] l q = absurd (z q)
       go (f ∷ older) l q = made_roots d b c.image.dataset c.image.base e f older l
 
--- the number of the entry that is found
-pub entry_number : (log : List Entry) (n : ℕ) (e : Entry) → entry_at log n ≡ Some e → e.number ≡ n
-unfolding entry_at
-entry_number [] n e h = cc
-entry_number (f ∷ log) n e h = go (eqb f.number n) refl h (entry_number log n e)
-  where
-    go : (t : Bool) → eqb f.number n ≡ t → cond t (Some f) (find (λ x. eqb x.number n) log) ≡ Some e → (find (λ x. eqb x.number n) log ≡ Some e → e.number ≡ n) → e.number ≡ n
-    go true q k ih = ap (λ (x : Entry). x.number) (sym (same_Some f e k)) ∙ eqb-true f.number n q
-    go false q k ih = ih k
-
 -- an entry is its parts
 pub of_head : (n : ℕ) (h : Head) (e : Entry) (a : Asked) (cs : List Changed) (retired made : List ℕ) → e.number ≡ n → h ≡ head_of e → a ≡ e.asked → cs ≡ e.changed → retired ≡ e.retired → made ≡ e.made
     → let x : Entry = record { number = n; client = h.client; line = h.line; at = h.at; asked = a; changed = cs; retired = retired; made = made } in x ≡ e

@@ -11,7 +11,7 @@
 //! made, which for a root are those that the definitions answer ([`laws::leaves_are_told`]).
 //! [`answer`] gives the whole reply to a read of a root, a path or leaves: its first refusal, or
 //! the defined answer. [`entry`] gives a whole entry of the log, with the roots that it retired
-//! and made.
+//! and made, and [`entry_at_spot`] the one whose record stands at a place.
 //!
 //! - `answers`: whole replies to reads
 //! - `nodes`: the nodes of a supervoxel at a prefix
@@ -32,6 +32,6 @@ mod ordering;
 mod roots;
 
 pub use answers::answer;
-pub use entries::entry;
+pub use entries::{entry, entry_at_spot};
 pub use node_leaves::leaves;
 pub use nodes::{path_at, root_at};
