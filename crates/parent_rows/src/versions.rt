@@ -75,6 +75,9 @@ fn hinted<W: Words>(w: &mut W, spot: Spot, below: u64) -> Option<Spot>
     ensures is { (d : Dataset) (b : Base) (log : List Entry) (id : ℕ) → ParentImage d b log (W.words w.old) → HoldsId d b log spot id → IfSome result (λ p. (row : Row) × Holds d b log p row × (is_version id below row ≡ true)) }
 {
     let place = w.hint(spot.0 as u64);
+    if place == 0 {
+        return None;
+    }
     if place >= w.len() / 8 {
         return None;
     }
