@@ -1,0 +1,6 @@
+pub mod Masks
+pub mod Calls
+pub mod Phases
+pub mod Events
+pub mod Steps
+pub mod Acts
