@@ -1,0 +1,3 @@
+pub mod SampleLogs
+pub mod Gathering
+pub mod Writing
