@@ -200,3 +200,23 @@ fn a_failed_write_leaves_a_front(rt: HostRuntime) -> Result<(), AllocError> {
     assert!(rt; leaves_a_page(alloc, vec![in alloc; 2]?, &reply));
     Ok(())
 }
+
+/// Whether of two replies the second is answered `Failed` and counted, though it was written whole.
+fn answers_a_failed_flush(alloc: Global, flush_fails: Vec<u32>) -> bool {
+    let Ok(mut sink) = MemSink::with_flush_fails(alloc, 7, 1000, Vec::new(alloc), flush_fails)
+    else {
+        return false;
+    };
+    write_reply(&Reply::NotBuilt, &mut sink).is_ok()
+        && write_reply(&Reply::NotBuilt, &mut sink) == Err(Failed)
+        && sink.faults() == 1
+        && sink.bytes()
+            == b"{\"ok\":false,\"refusal\":\"NotBuilt\"}\n{\"ok\":false,\"refusal\":\"NotBuilt\"}\n".as_slice()
+}
+
+#[test]
+fn a_failed_flush_is_answered(rt: HostRuntime) -> Result<(), AllocError> {
+    let alloc = rt.alloc();
+    assert!(rt; answers_a_failed_flush(alloc, vec![in alloc; 2]?));
+    Ok(())
+}

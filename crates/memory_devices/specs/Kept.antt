@@ -57,13 +57,15 @@ abbrev pub opened_out_of : Option Kept → Bool
 opened_out_of None = false
 opened_out_of (Some k) = k.opened_out
 
-abbrev pub read_fails_of : Option Kept → List ℕ
-read_fails_of None = []
-read_fails_of (Some k) = k.file.read_fails.items
+-- which calls fail of a name's sources and sinks
+pub record Fails : Type 0 where
+  pub reads : List ℕ
+  pub writes : List ℕ
+  pub flushes : List ℕ
 
-abbrev pub write_fails_of : Option Kept → List ℕ
-write_fails_of None = []
-write_fails_of (Some k) = k.file.write_fails.items
+abbrev pub fails_of : Option Kept → Fails
+fails_of None = record { reads = []; writes = []; flushes = [] }
+fails_of (Some k) = record { reads = k.file.read_fails.items; writes = k.file.write_fails.items; flushes = k.file.flush_fails.items }
 
 abbrev pub bytes_at : List ℕ → List Kept → Option (List ℕ)
 bytes_at name kept = bytes_of (entry_of name kept)
@@ -83,11 +85,8 @@ was_in name kept = opened_in_of (entry_of name kept)
 abbrev pub was_out : List ℕ → List Kept → Bool
 was_out name kept = opened_out_of (entry_of name kept)
 
-abbrev pub read_fails_at : List ℕ → List Kept → List ℕ
-read_fails_at name kept = read_fails_of (entry_of name kept)
-
-abbrev pub write_fails_at : List ℕ → List Kept → List ℕ
-write_fails_at name kept = write_fails_of (entry_of name kept)
+abbrev pub fails_at : List ℕ → List Kept → Fails
+fails_at name kept = fails_of (entry_of name kept)
 
 -- a file that was never opened
 abbrev pub unopened_file : MemFile → Kept

@@ -2,7 +2,7 @@
 use Rattle.std.specs.Prelude.{ℕ, List, Bool}
 use Rattle.memory_devices.specs.declared.mem_place.MemPlace.{MemPlace}
 use Rattle.pcg_base.specs.Told.{Files, Counts}
-use Rattle.memory_devices.specs.Kept.{map_of, left_at, faults_in, faults_out, was_in, was_out, read_fails_at, write_fails_at, times}
+use Rattle.memory_devices.specs.Kept.{map_of, left_at, faults_in, faults_out, was_in, was_out, Fails, fails_at, times}
 
 -- the bytes at each name
 abbrev pub told_by : MemPlace → Files
@@ -41,10 +41,6 @@ piece_by p = p.piece
 abbrev pub room_by : MemPlace → ℕ
 room_by p = p.room
 
--- which reads of a name's sources fail
-abbrev pub read_fails_by : MemPlace → List ℕ → List ℕ
-read_fails_by p name = read_fails_at name p.kept.items
-
--- which writes of a name's sinks fail
-abbrev pub write_fails_by : MemPlace → List ℕ → List ℕ
-write_fails_by p name = write_fails_at name p.kept.items
+-- which calls fail of a name's sources and sinks
+abbrev pub fails_by : MemPlace → List ℕ → Fails
+fails_by p name = fails_at name p.kept.items

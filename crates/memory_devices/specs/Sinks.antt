@@ -1,10 +1,14 @@
 -- What a sink in memory shows.
-use Rattle.std.specs.Prelude.{ℕ, List}
+use Rattle.std.specs.Prelude.{ℕ, List, take}
 use Rattle.memory_devices.specs.declared.mem_sink.MemSink.{MemSink}
 
 -- the bytes that it holds
 abbrev pub held_in : MemSink → List ℕ
 held_in k = k.bytes.items
+
+-- those of them that were flushed
+abbrev pub flushed_in : MemSink → List ℕ
+flushed_in k = take k.flushed k.bytes.items
 
 -- how many bytes more it can take
 abbrev pub room_of : MemSink → ℕ
@@ -18,10 +22,18 @@ piece_of k = k.piece
 abbrev pub fails_of : MemSink → List ℕ
 fails_of k = k.fails.items
 
+-- the numbers of the flushes that fail
+abbrev pub flush_fails_of : MemSink → List ℕ
+flush_fails_of k = k.flush_fails.items
+
 -- how many writes there were
 abbrev pub calls_of : MemSink → ℕ
 calls_of k = k.calls
 
--- how many of them failed
+-- how many flushes there were
+abbrev pub flushes_of : MemSink → ℕ
+flushes_of k = k.flushes
+
+-- how many writes and flushes failed
 abbrev pub faults_of : MemSink → ℕ
 faults_of k = k.faults

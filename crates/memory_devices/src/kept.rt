@@ -1,7 +1,7 @@
 ghost use Rattle.std.specs.Prelude.{◌≡◌, ◌≢◌, ◌+◌, ◌≤◌, ◌<◌, ℕ, List, [], ◌∷◌, Bool, true, false, Some, None, IfOk, OnOk, OnErr, IfSome, IfNone, length, map};
 ghost use Rattle.std.specs.FinMap.{insert};
 ghost use Rattle.pcg_base.specs.Causes.{added};
-ghost use Rattle.memory_devices.specs.Kept.{FirstAt, name_of, entry_of, bytes_at, left_at, faults_in, faults_out, was_in, was_out, read_fails_at, write_fails_at, map_of, unopened_file};
+ghost use Rattle.memory_devices.specs.Kept.{Changes, FirstAt, name_of, entry_of, bytes_at, left_at, faults_in, faults_out, was_in, was_out, fails_at, fails_of, map_of, unopened_file};
 ghost use Rattle.memory_devices.specs.Sources.{left_in};
 
 use crate::mem_source::MemSource;
@@ -10,7 +10,7 @@ use std::alloc::Global;
 
 /// A name in memory, its bytes, and which calls of its sources and sinks fail, by their numbers
 /// counted from 1.
-#[derive(Debug, Drop)]
+#[derive(Drop)]
 pub struct MemFile {
     /// The name.
     pub name: String,
@@ -20,10 +20,12 @@ pub struct MemFile {
     pub read_fails: Vec<u32>,
     /// The writes that fail, of each sink of the name.
     pub write_fails: Vec<u32>,
+    /// The flushes that fail, of each sink of the name.
+    pub flush_fails: Vec<u32>,
 }
 
 /// What is kept beside a name.
-#[derive(Debug, Drop)]
+#[derive(Drop)]
 pub(crate) struct Kept {
     pub(crate) file: MemFile,
     pub(crate) left: Option<MemSource>,
@@ -85,8 +87,7 @@ pub(crate) fn open_in(kept: &mut Vec<Kept>, i: usize, name: &str)
     ensures opened { was_in name.now kept.new.items ≡ true }
     ensures stays_in { (n : List ℕ) → was_in n kept.old.items ≡ true → was_in n kept.new.items ≡ true }
     ensures stays_out { (n : List ℕ) → was_out n kept.new.items ≡ was_out n kept.old.items }
-    ensures read_fails { (n : List ℕ) → read_fails_at n kept.new.items ≡ read_fails_at n kept.old.items }
-    ensures write_fails { (n : List ℕ) → write_fails_at n kept.new.items ≡ write_fails_at n kept.old.items }
+    ensures fails { (n : List ℕ) → fails_at n kept.new.items ≡ fails_at n kept.old.items }
 {
     let _ = name;
     kept[i].opened_in = true;
@@ -103,8 +104,7 @@ pub(crate) fn open_out(kept: &mut Vec<Kept>, i: usize, name: &str)
     ensures opened { was_out name.now kept.new.items ≡ true }
     ensures stays_in { (n : List ℕ) → was_in n kept.new.items ≡ was_in n kept.old.items }
     ensures stays_out { (n : List ℕ) → was_out n kept.old.items ≡ true → was_out n kept.new.items ≡ true }
-    ensures read_fails { (n : List ℕ) → read_fails_at n kept.new.items ≡ read_fails_at n kept.old.items }
-    ensures write_fails { (n : List ℕ) → write_fails_at n kept.new.items ≡ write_fails_at n kept.old.items }
+    ensures fails { (n : List ℕ) → fails_at n kept.new.items ≡ fails_at n kept.old.items }
 {
     let _ = name;
     let entry = &mut kept[i];
@@ -125,8 +125,7 @@ pub(crate) fn put_source(kept: &mut Vec<Kept>, i: usize, name: &str, source: Mem
     ensures sink_faults { (n : List ℕ) → faults_out n kept.new.items ≡ faults_out n kept.old.items }
     ensures stays_in { (n : List ℕ) → was_in n kept.new.items ≡ was_in n kept.old.items }
     ensures stays_out { (n : List ℕ) → was_out n kept.new.items ≡ was_out n kept.old.items }
-    ensures read_fails { (n : List ℕ) → read_fails_at n kept.new.items ≡ read_fails_at n kept.old.items }
-    ensures write_fails { (n : List ℕ) → write_fails_at n kept.new.items ≡ write_fails_at n kept.old.items }
+    ensures fails { (n : List ℕ) → fails_at n kept.new.items ≡ fails_at n kept.old.items }
 {
     let _ = name;
     let entry = &mut kept[i];
@@ -146,8 +145,7 @@ pub(crate) fn put_sink(kept: &mut Vec<Kept>, i: usize, name: &str, faults: u64, 
     ensures source_faults { (n : List ℕ) → faults_in n kept.new.items ≡ faults_in n kept.old.items }
     ensures stays_in { (n : List ℕ) → was_in n kept.new.items ≡ was_in n kept.old.items }
     ensures stays_out { (n : List ℕ) → was_out n kept.new.items ≡ was_out n kept.old.items }
-    ensures read_fails { (n : List ℕ) → read_fails_at n kept.new.items ≡ read_fails_at n kept.old.items }
-    ensures write_fails { (n : List ℕ) → write_fails_at n kept.new.items ≡ write_fails_at n kept.old.items }
+    ensures fails { (n : List ℕ) → fails_at n kept.new.items ≡ fails_at n kept.old.items }
 {
     let _ = name;
     let entry = &mut kept[i];
@@ -159,8 +157,7 @@ pub(crate) fn put_sink(kept: &mut Vec<Kept>, i: usize, name: &str, faults: u64, 
 fn empty_file(alloc: Global, name: &str) -> Result<Kept, NoMemory>
     ensures name { IfOk result (λ k. name_of k ≡ name.now) }
     ensures bytes { IfOk result (λ k. k.file.bytes.items ≡ []) }
-    ensures read_fails { IfOk result (λ k. k.file.read_fails.items ≡ []) }
-    ensures write_fails { IfOk result (λ k. k.file.write_fails.items ≡ []) }
+    ensures fails { IfOk result (λ k. fails_of (Some k) ≡ fails_of None) }
     ensures left { IfOk result (λ k. k.left ≡ None) }
     ensures source_faults { IfOk result (λ k. k.source_faults ≡ 0) }
     ensures sink_faults { IfOk result (λ k. k.sink_faults ≡ 0) }
@@ -175,9 +172,24 @@ fn empty_file(alloc: Global, name: &str) -> Result<Kept, NoMemory>
         bytes: Vec::new(alloc),
         read_fails: Vec::new(alloc),
         write_fails: Vec::new(alloc),
+        flush_fails: Vec::new(alloc),
     });
     entry.opened_out = true;
     Ok(entry)
+}
+
+/// Puts an entry of a name that has none behind the others.
+fn push_entry(kept: &mut Vec<Kept>, name: &str, entry: Kept) -> Result<(), NoMemory>
+    requires none { entry_of name.now kept.old.items ≡ None }
+    requires named { name_of entry ≡ name.now }
+    ensures changes { OnOk result (Changes name.now entry kept.old.items kept.new.items) }
+    ensures err { OnErr result (kept.new.items ≡ kept.old.items) }
+{
+    let _ = name;
+    if kept.push(entry).is_err() {
+        return Err(NoMemory);
+    }
+    Ok(())
 }
 
 /// Makes an empty file at a name that has none, opened for writing.
@@ -191,12 +203,9 @@ pub(crate) fn put_new(alloc: Global, kept: &mut Vec<Kept>, name: &str) -> Result
     ensures opened { OnOk result (was_out name.now kept.new.items ≡ true) }
     ensures stays_in { OnOk result ((n : List ℕ) → was_in n kept.new.items ≡ was_in n kept.old.items) }
     ensures stays_out { OnOk result ((n : List ℕ) → was_out n kept.old.items ≡ true → was_out n kept.new.items ≡ true) }
-    ensures read_fails { OnOk result ((n : List ℕ) → read_fails_at n kept.new.items ≡ read_fails_at n kept.old.items) }
-    ensures write_fails { OnOk result ((n : List ℕ) → write_fails_at n kept.new.items ≡ write_fails_at n kept.old.items) }
+    ensures fails { OnOk result ((n : List ℕ) → fails_at n kept.new.items ≡ fails_at n kept.old.items) }
 {
     let entry = empty_file(alloc, name)?;
-    if kept.push(entry).is_err() {
-        return Err(NoMemory);
-    }
+    push_entry(kept, name, entry)?;
     Ok(())
 }

@@ -4,7 +4,8 @@
 //!
 //! The promise: sources, sinks and places in memory tell their bytes, and meet the contracts of
 //! [`pcg_base::Source`], [`pcg_base::Sink`] and [`pcg_base::Place`]. A source fails exactly at the
-//! calls that are named, and a sink at those and if it has no room left.
+//! reads that are named, and a sink at the writes and the flushes that are named and at a write for
+//! which it has no room left.
 //!
 //! - `mem_source`, `mem_sink`: streams in memory
 //! - `mem_place`, `kept`: places in memory, and what they keep beside each name

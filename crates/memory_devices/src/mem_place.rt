@@ -1,7 +1,7 @@
 ghost use Rattle.std.specs.Prelude.{◌≡◌, ◌≢◌, ◌+◌, ◌≤◌, ◌<◌, ℕ, List, [], Bool, true, false, Some, None, IfOk, OnOk, OnErr, length};
 ghost use Rattle.std.specs.FinMap.{get, insert};
 ghost use Rattle.pcg_base.specs.Causes.{Rose, added};
-ghost use Rattle.memory_devices.specs.Kept.{FirstAt, left_at, faults_in, faults_out, was_in, was_out, read_fails_at, write_fails_at, map_of, times};
+ghost use Rattle.memory_devices.specs.Kept.{FirstAt, left_at, faults_in, faults_out, was_in, was_out, fails_at, map_of, times};
 ghost use Rattle.memory_devices.specs.Sources as sources;
 ghost use Rattle.memory_devices.specs.Sinks as sinks;
 
@@ -27,7 +27,7 @@ fn source_at(
     ensures left { IfOk result (λ s. get (map_of kept.now) name.now ≡ Some (sources.left_in s)) }
     ensures faults { IfOk result (λ s. sources.faults_of s ≡ 0) }
     ensures piece { IfOk result (λ s. sources.piece_of s ≡ piece) }
-    ensures fails { IfOk result (λ s. sources.fails_of s ≡ read_fails_at name.now kept.now) }
+    ensures fails { IfOk result (λ s. sources.fails_of s ≡ (fails_at name.now kept.now).reads) }
 {
     let _ = name;
     let file = &kept[i].file;
@@ -40,17 +40,34 @@ fn source_at(
     Ok(MemSource::new(bytes, piece, fails))
 }
 
-/// The writes that fail of a name's sinks.
-fn fails_at(alloc: Global, kept: &[Kept], name: &str) -> Result<Vec<u32>, NoMemory>
-    ensures { IfOk result (λ v. v.items ≡ write_fails_at name.now kept.now) }
+/// A sink for a name.
+fn sink_at(
+    alloc: Global,
+    kept: &[Kept],
+    name: &str,
+    piece: usize,
+    room: u64,
+) -> Result<MemSink, NoMemory>
+    requires some { 0 < piece }
+    ensures held { IfOk result (λ k. sinks.held_in k ≡ []) }
+    ensures flushed { IfOk result (λ k. sinks.flushed_in k ≡ []) }
+    ensures room { IfOk result (λ k. sinks.room_of k ≡ room) }
+    ensures piece { IfOk result (λ k. sinks.piece_of k ≡ piece) }
+    ensures fails { IfOk result (λ k. sinks.fails_of k ≡ (fails_at name.now kept.now).writes) }
+    ensures flush_fails { IfOk result (λ k. sinks.flush_fails_of k ≡ (fails_at name.now kept.now).flushes) }
+    ensures faults { IfOk result (λ k. sinks.faults_of k ≡ 0) }
 {
     let Some(i) = place_of(kept, name) else {
-        return Ok(Vec::new(alloc));
+        return MemSink::new(alloc, piece, room, Vec::new(alloc));
     };
-    let Ok(fails) = Vec::from_slice(alloc, kept[i].file.write_fails.as_slice()) else {
+    let file = &kept[i].file;
+    let Ok(fails) = Vec::from_slice(alloc, file.write_fails.as_slice()) else {
         return Err(NoMemory);
     };
-    Ok(fails)
+    let Ok(flush_fails) = Vec::from_slice(alloc, file.flush_fails.as_slice()) else {
+        return Err(NoMemory);
+    };
+    MemSink::with_flush_fails(alloc, piece, room, fails, flush_fails)
 }
 
 /// Empties a name or makes it, and notes that it was opened for writing.
@@ -63,8 +80,7 @@ fn make_room(alloc: Global, kept: &mut Vec<Kept>, name: &str) -> Result<(), NoMe
     ensures opened { OnOk result (was_out name.now kept.new.items ≡ true) }
     ensures stays_in { (n : List ℕ) → was_in n kept.new.items ≡ was_in n kept.old.items }
     ensures stays_out { (n : List ℕ) → was_out n kept.old.items ≡ true → was_out n kept.new.items ≡ true }
-    ensures read_fails { (n : List ℕ) → read_fails_at n kept.new.items ≡ read_fails_at n kept.old.items }
-    ensures write_fails { (n : List ℕ) → write_fails_at n kept.new.items ≡ write_fails_at n kept.old.items }
+    ensures fails { (n : List ℕ) → fails_at n kept.new.items ≡ fails_at n kept.old.items }
 {
     let Some(i) = place_of(kept, name) else {
         return put_new(alloc, kept, name);
@@ -74,7 +90,7 @@ fn make_room(alloc: Global, kept: &mut Vec<Kept>, name: &str) -> Result<(), NoMe
 }
 
 /// Files in memory.
-#[derive(Debug, Drop)]
+#[derive(Drop)]
 pub struct MemPlace {
     kept: Vec<Kept>,
     missed: Vec<String>,
@@ -159,10 +175,10 @@ impl Place for MemPlace {
     ghost use Rattle.std.specs.Prelude.{◌≡◌, ◌≢◌, ◌≤◌, ℕ, List, [], true, Some, None, IfOk, OnOk, OnErr, IsErrOf};
     ghost use Rattle.std.specs.FinMap.{get, insert};
     ghost use Rattle.pcg_base.specs.Causes.{Rose, added};
-    ghost use Rattle.pcg_base.specs.Told.{OpensSource, OpensSink};
+    ghost use Rattle.pcg_base.specs.Told.{IsFlushed, OpensSource, OpensSink};
     ghost use Rattle.memory_devices.specs.Sources as sources;
     ghost use Rattle.memory_devices.specs.Sinks as sinks;
-    ghost use Rattle.memory_devices.specs.Places.{told_by, counts_by, read_faults_by, write_faults_by, left_by, opened_in_by, opened_out_by, piece_by, room_by, read_fails_by, write_fails_by};
+    ghost use Rattle.memory_devices.specs.Places.{told_by, counts_by, read_faults_by, write_faults_by, left_by, opened_in_by, opened_out_by, piece_by, room_by, fails_by};
 
     type In = MemSource;
 
@@ -188,6 +204,8 @@ impl Place for MemPlace {
         ensures failed { IsErrOf result PlaceError.Failed → Rose (read_faults_by self.old) (read_faults_by self.new) }
         ensures failed_here { IsErrOf result PlaceError.Failed
             → Rose (counts_by self.old name.now).source_openings (counts_by self.new name.now).source_openings }
+        ensures still { OnOk result (read_faults_by self.new ≡ read_faults_by self.old) }
+        ensures still_here { OnOk result (counts_by self.new name.now ≡ counts_by self.old name.now) }
         ensures only_kind { OpensSource (counts_by self.old name.now) (counts_by self.new name.now) }
         ensures only_here { (n : List ℕ) → n ≢ name.now → counts_by self.new n ≡ counts_by self.old n }
         ensures files { told_by self.new ≡ told_by self.old }
@@ -199,11 +217,10 @@ impl Place for MemPlace {
         ensures stays_out { (n : List ℕ) → opened_out_by self.old n ≡ true → opened_out_by self.new n ≡ true }
         ensures missing { IsErrOf result PlaceError.Failed → get (told_by self.old) name.now ≡ None }
         ensures piece { IfOk result (λ s. sources.piece_of s ≡ piece_by self.old) }
-        ensures fails { IfOk result (λ s. sources.fails_of s ≡ read_fails_by self.old name.now) }
+        ensures fails { IfOk result (λ s. sources.fails_of s ≡ (fails_by self.old name.now).reads) }
         ensures same_piece { piece_by self.new ≡ piece_by self.old }
         ensures same_room { room_by self.new ≡ room_by self.old }
-        ensures same_read_fails { (n : List ℕ) → read_fails_by self.new n ≡ read_fails_by self.old n }
-        ensures same_write_fails { (n : List ℕ) → write_fails_by self.new n ≡ write_fails_by self.old n }
+        ensures same_fails { (n : List ℕ) → fails_by self.new n ≡ fails_by self.old n }
     {
         let Some(i) = place_of(&self.kept, name) else {
             return Err(self.miss(name));
@@ -226,22 +243,20 @@ impl Place for MemPlace {
         ensures left { (n : List ℕ) → left_by self.new n ≡ left_by self.old n }
         ensures fresh { IfOk result (λ k. sinks.faults_of k ≡ 0) }
         ensures empty { IfOk result (λ k. sinks.held_in k ≡ []) }
+        ensures flushed { IfOk result (λ k. IsFlushed (Some (sinks.held_in k)) (Some (sinks.flushed_in k))) }
         ensures opened { OnOk result (opened_out_by self.new name.now ≡ true) }
         ensures stays_in { (n : List ℕ) → opened_in_by self.old n ≡ true → opened_in_by self.new n ≡ true }
         ensures stays_out { (n : List ℕ) → opened_out_by self.old n ≡ true → opened_out_by self.new n ≡ true }
         ensures piece { IfOk result (λ k. sinks.piece_of k ≡ piece_by self.old) }
         ensures room { IfOk result (λ k. sinks.room_of k ≡ room_by self.old) }
-        ensures fails { IfOk result (λ k. sinks.fails_of k ≡ write_fails_by self.old name.now) }
+        ensures fails { IfOk result (λ k. sinks.fails_of k ≡ (fails_by self.old name.now).writes) }
+        ensures flush_fails { IfOk result (λ k. sinks.flush_fails_of k ≡ (fails_by self.old name.now).flushes) }
         ensures same_piece { piece_by self.new ≡ piece_by self.old }
         ensures same_room { room_by self.new ≡ room_by self.old }
-        ensures same_read_fails { (n : List ℕ) → read_fails_by self.new n ≡ read_fails_by self.old n }
-        ensures same_write_fails { (n : List ℕ) → write_fails_by self.new n ≡ write_fails_by self.old n }
+        ensures same_fails { (n : List ℕ) → fails_by self.new n ≡ fails_by self.old n }
     {
         let alloc = *self.kept.allocator();
-        let Ok(fails) = fails_at(alloc, &self.kept, name) else {
-            return Err(PlaceError::NoMemory);
-        };
-        let Ok(sink) = MemSink::new(alloc, self.piece, self.room, fails) else {
+        let Ok(sink) = sink_at(alloc, &self.kept, name, self.piece, self.room) else {
             return Err(PlaceError::NoMemory);
         };
         let Ok(()) = make_room(alloc, &mut self.kept, name) else {
@@ -267,8 +282,7 @@ impl Place for MemPlace {
         ensures stays_out { (n : List ℕ) → opened_out_by self.old n ≡ true → opened_out_by self.new n ≡ true }
         ensures same_piece { piece_by self.new ≡ piece_by self.old }
         ensures same_room { room_by self.new ≡ room_by self.old }
-        ensures same_read_fails { (n : List ℕ) → read_fails_by self.new n ≡ read_fails_by self.old n }
-        ensures same_write_fails { (n : List ℕ) → write_fails_by self.new n ≡ write_fails_by self.old n }
+        ensures same_fails { (n : List ℕ) → fails_by self.new n ≡ fails_by self.old n }
     {
         let i = place_of(&self.kept, name).unwrap();
         self.read_faults = self.read_faults.saturating_add(source.faults());
@@ -291,8 +305,7 @@ impl Place for MemPlace {
         ensures stays_out { (n : List ℕ) → opened_out_by self.old n ≡ true → opened_out_by self.new n ≡ true }
         ensures same_piece { piece_by self.new ≡ piece_by self.old }
         ensures same_room { room_by self.new ≡ room_by self.old }
-        ensures same_read_fails { (n : List ℕ) → read_fails_by self.new n ≡ read_fails_by self.old n }
-        ensures same_write_fails { (n : List ℕ) → write_fails_by self.new n ≡ write_fails_by self.old n }
+        ensures same_fails { (n : List ℕ) → fails_by self.new n ≡ fails_by self.old n }
     {
         let i = place_of(&self.kept, name).unwrap();
         let faults = sink.faults();

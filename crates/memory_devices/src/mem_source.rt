@@ -25,7 +25,7 @@ pub(crate) fn is_named(fails: &[u32], call: u64) -> bool
 }
 
 /// Bytes in memory that are given in pieces, by calls of which chosen ones fail.
-#[derive(Debug, Drop)]
+#[derive(Drop)]
 pub struct MemSource {
     bytes: Vec<u8>,
     at: usize,

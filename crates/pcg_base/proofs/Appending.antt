@@ -1,7 +1,7 @@
-use Rattle.std.proofs.Common.{◌≡◌, ℕ, ◌+◌, List, ◌++◌, take, take-add, drop, Option, Some, None, ap, sym, ◌∙◌}
-use Rattle.std.proofs.lemmas.List.{append_assoc, take-append-drop}
+use Rattle.std.proofs.Common.{◌≡◌, ℕ, ◌+◌, ◌-◌, ◌≤◌, ◌<◌, List, ◌++◌, length, take, take-add, drop, Option, Some, None, ap, sym, ◌∙◌, subst, arith}
+use Rattle.std.proofs.lemmas.List.{append_assoc, take-append-drop, length-append, length-take-le, length-drop}
 use Rattle.std.specs.Io.KnownBytes.{Appends, Consumes, Keeps}
-use Rattle.pcg_base.specs.Told.{AppendsFront}
+use Rattle.pcg_base.specs.Told.{AppendsFront, LosesMore}
 
 -- a text behind another
 pub appends_more : (a b c : Option (List ℕ)) (x y z : List ℕ) → z ≡ x ++ y → Appends a b x → Appends b c y → Appends a c z
@@ -27,3 +27,18 @@ front_taken None b c piece at h k = tt
 front_taken (Some p) None c piece at h k = absurd h
 front_taken (Some p) (Some q) None piece at h k = absurd k
 front_taken (Some p) (Some q) (Some r) piece at h k = (take at piece, drop at piece, sym (take-append-drop at piece), k ∙ h)
+
+-- a front of what a read gave, behind what there was
+pub loses_more : (a b c : Option (List ℕ)) (x into : List ℕ) (room count : ℕ) → room < count → count ≤ length into → Consumes a b x → Consumes b c (take count into) → LosesMore a c (x ++ take room into)
+loses_more a b c x into room count less within h k =
+    let rest : List ℕ = take (count - room) (drop room into) in
+    let long : length rest ≡ count - room = length-take-le (count - room) (drop room into) (subst (λ n. count - room ≤ n) (sym (length-drop room into)) (omega (arith, less, within))) in
+    let parts : take count into ≡ take room into ++ rest = ap (λ n. take n into) (omega (arith, less)) ∙ take-add room (count - room) into in
+    let whole : x ++ take count into ≡ (x ++ take room into) ++ rest = ap (λ w. x ++ w) parts ∙ sym (append_assoc x (take room into) rest) in
+    (rest, omega (arith, less, long), subst (λ w. Consumes a c w) whole (consumes_more a b c x (take count into) h k))
+
+-- a read that goes past the limit fills the bytes up to it
+pub full : (x into : List ℕ) (limit count : ℕ) → length x ≤ limit → limit - length x < count → count ≤ length into → length (x ++ take (limit - length x) into) ≡ limit
+full x into limit count fits less within =
+    let room : length (take (limit - length x) into) ≡ limit - length x = length-take-le (limit - length x) into (omega (arith, less, within)) in
+    length-append x (take (limit - length x) into) ∙ ap (λ n. length x + n) room ∙ omega (arith, fits)

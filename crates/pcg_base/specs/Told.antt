@@ -67,6 +67,15 @@ AppendsFront (Some xs) (Some ys) text = (front rest : List ℕ) × (text ≡ fro
 abbrev pub LosesFront : Option (List ℕ) → Option (List ℕ) → Type 0
 LosesFront old new = (front : List ℕ) × Consumes old new front
 
+-- told bytes begin with these, and lose them and some more
+abbrev pub LosesMore : Option (List ℕ) → Option (List ℕ) → List ℕ → Type 0
+LosesMore old new bytes = (more : List ℕ) × (0 < length more) × Consumes old new (bytes ++ more)
+
+-- where the held bytes are told, so are those that were flushed, which are all of them
+abbrev pub IsFlushed : Option (List ℕ) → Option (List ℕ) → Type 0
+IsFlushed None flushed = ⊤
+IsFlushed (Some held) flushed = flushed ≡ Some held
+
 -- told bytes are more than so many
 abbrev pub IsLonger : Option (List ℕ) → ℕ → Type 0
 IsLonger None limit = ⊤

@@ -4,10 +4,11 @@
 //! answer `Failed` comes without its count.
 //!
 //! The promise: a source gives bytes from the front of what it has left, and a sink appends to
-//! what it holds. `Failed` comes only if a count of faults rose in the same call, and no count
-//! falls. A call of a place changes only its own name. [`read_all`] and [`read_name`] give all
-//! bytes up to the end, or say that there are more than the limit. [`write_all`] appends the whole
-//! piece, or a front of it if it fails.
+//! what it holds. After a flush that did not fail all that it holds is flushed. `Failed` comes only
+//! if a count of faults rose in the same call, a call that does what was asked raises none, and no
+//! count falls. A call of a place changes only its own name. [`read_all`] and [`read_name`] give all
+//! bytes up to the end, or say that there are more than the limit; they end at the first fault.
+//! [`write_all`] appends the whole piece, or a front of it if it fails.
 //!
 //! - `cutting`: texts that are cut at a byte
 //! - `traits`: sources and sinks

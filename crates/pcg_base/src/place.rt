@@ -1,6 +1,6 @@
 ghost use Rattle.std.specs.Prelude.{◌≡◌, ◌≢◌, ◌≤◌, ℕ, List, [], Bool, true, IfOk, OnOk, OnErr, IsErrOf, Option};
 ghost use Rattle.pcg_base.specs.Causes.{Rose, added};
-ghost use Rattle.pcg_base.specs.Told.{Files, KeepsFiles, PutsFile, PutsHeld, TellsAt, TellsTo, Counts, OpensSource, OpensSink};
+ghost use Rattle.pcg_base.specs.Told.{Files, IsFlushed, KeepsFiles, PutsFile, PutsHeld, TellsAt, TellsTo, Counts, OpensSource, OpensSink};
 
 use crate::traits::{Sink, Source};
 
@@ -47,13 +47,16 @@ pub trait Place {
     ghost left_at: { Self → List ℕ → List ℕ };
 
     /// Opens a name for reading. `Failed` comes only where both the place's count of faults of
-    /// reading and the name's count of failed openings for reading rose.
+    /// reading and the name's count of failed openings for reading rose. Where it opens no count
+    /// rises.
     fn source_of(&mut self, name: &str) -> Result<Self::In, PlaceError>
         ensures later { read_faults self.old ≤ read_faults self.new }
         ensures other_kind { write_faults self.new ≡ write_faults self.old }
         ensures failed { IsErrOf result PlaceError.Failed → Rose (read_faults self.old) (read_faults self.new) }
         ensures failed_here { IsErrOf result PlaceError.Failed
             → Rose (counts self.old name.now).source_openings (counts self.new name.now).source_openings }
+        ensures still { OnOk result (read_faults self.new ≡ read_faults self.old) }
+        ensures still_here { OnOk result (counts self.new name.now ≡ counts self.old name.now) }
         ensures only_kind { OpensSource (counts self.old name.now) (counts self.new name.now) }
         ensures only_here { (n : List ℕ) → n ≢ name.now → counts self.new n ≡ counts self.old n }
         ensures files { KeepsFiles (files self.old) (files self.new) }
@@ -66,12 +69,15 @@ pub trait Place {
 
     /// Opens a name for writing, which has no bytes from then on. `Failed` comes only where both the
     /// place's count of faults of writing and the name's count of failed openings for writing rose.
+    /// Where it opens no count rises, and no byte waits for a flush.
     fn sink_of(&mut self, name: &str) -> Result<Self::Out, PlaceError>
         ensures later { write_faults self.old ≤ write_faults self.new }
         ensures other_kind { read_faults self.new ≡ read_faults self.old }
         ensures failed { IsErrOf result PlaceError.Failed → Rose (write_faults self.old) (write_faults self.new) }
         ensures failed_here { IsErrOf result PlaceError.Failed
             → Rose (counts self.old name.now).sink_openings (counts self.new name.now).sink_openings }
+        ensures still { OnOk result (write_faults self.new ≡ write_faults self.old) }
+        ensures still_here { OnOk result (counts self.new name.now ≡ counts self.old name.now) }
         ensures only_kind { OpensSink (counts self.old name.now) (counts self.new name.now) }
         ensures only_here { (n : List ℕ) → n ≢ name.now → counts self.new n ≡ counts self.old n }
         ensures made { OnOk result (PutsFile (files self.old) (files self.new) name.now []) }
@@ -79,6 +85,7 @@ pub trait Place {
         ensures left { (n : List ℕ) → left_at self.new n ≡ left_at self.old n }
         ensures fresh { IfOk result (λ k. Self.Out.faults k ≡ 0) }
         ensures empty { IfOk result (λ k. TellsTo (files self.old) (Self.Out.held k) []) }
+        ensures flushed { IfOk result (λ k. IsFlushed (Self.Out.held k) (Self.Out.flushed k)) }
         ensures opened { OnOk result (opened_out self.new name.now ≡ true) }
         ensures stays_in { (n : List ℕ) → opened_in self.old n ≡ true → opened_in self.new n ≡ true }
         ensures stays_out { (n : List ℕ) → opened_out self.old n ≡ true → opened_out self.new n ≡ true };

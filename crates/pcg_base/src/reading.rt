@@ -1,7 +1,7 @@
-ghost use Rattle.std.specs.Prelude.{◌≡◌, ◌≢◌, ◌≤◌, ◌<◌, ◌⊎◌, ℕ, List, [], length, IfOk, OnOk, IsErrOf, true};
+ghost use Rattle.std.specs.Prelude.{◌≡◌, ◌≢◌, ◌≤◌, ◌<◌, ◌⊎◌, ℕ, List, [], length, IfOk, OnOk, OnErr, IsErrOf, true};
 ghost use Rattle.std.specs.Io.KnownBytes.{Consumes, IsAtEnd};
 ghost use Rattle.pcg_base.specs.Causes.{Rose};
-ghost use Rattle.pcg_base.specs.Told.{KeepsFiles, TellsAt, LosesFront, IsLonger, IsLongerAt, LeavesNone, ReadsSource};
+ghost use Rattle.pcg_base.specs.Told.{KeepsFiles, TellsAt, LosesFront, LosesMore, IsLonger, IsLongerAt, LeavesNone, ReadsSource};
 
 use crate::place::{Place, PlaceError};
 use crate::traits::{NoMemory, Source};
@@ -38,13 +38,18 @@ pub struct Stream {
     pub end: StreamEnd,
 }
 
-/// Reads a stream to its end, its fault or the limit. Whatever it answers, a front of what was left
-/// is gone.
+/// Reads a stream to its end, its first fault or the limit. Past the limit the bytes up to it are
+/// answered. The count of faults rises where the stream is `Broken` and nowhere else. Whatever it
+/// answers, a front of what was left is gone.
 pub fn read_stream<S: Source>(alloc: Global, from: &mut S, limit: u64) -> Result<Stream, NoMemory>
     ensures size { IfOk result (λ s. length s.bytes.items ≤ limit) }
     ensures whole { IfOk result (λ s. s.end ≡ StreamEnd.Whole → Consumes (S.left from.old) (S.left from.new) s.bytes.items × IsAtEnd (S.left from.new)) }
     ensures broken { IfOk result (λ s. s.end ≡ StreamEnd.Broken → Consumes (S.left from.old) (S.left from.new) s.bytes.items × Rose (S.faults from.old) (S.faults from.new)) }
     ensures long { IfOk result (λ s. s.end ≡ StreamEnd.TooLong → IsLonger (S.left from.old) limit) }
+    ensures long_bytes { IfOk result (λ s. s.end ≡ StreamEnd.TooLong → (length s.bytes.items ≡ limit) × LosesMore (S.left from.old) (S.left from.new) s.bytes.items) }
+    ensures still { IfOk result (λ s. s.end ≡ StreamEnd.Whole → S.faults from.new ≡ S.faults from.old) }
+    ensures still_long { IfOk result (λ s. s.end ≡ StreamEnd.TooLong → S.faults from.new ≡ S.faults from.old) }
+    ensures still_refused { OnErr result (S.faults from.new ≡ S.faults from.old) }
     ensures later { S.faults from.old ≤ S.faults from.new }
     ensures front { LosesFront (S.left from.old) (S.left from.new) }
 {
@@ -64,7 +69,12 @@ pub fn read_stream<S: Source>(alloc: Global, from: &mut S, limit: u64) -> Result
                 end: StreamEnd::Whole,
             });
         }
-        if count as u64 > limit - bytes.len() as u64 {
+        let room = limit - bytes.len() as u64;
+        if count as u64 > room {
+            match bytes.extend_from_slice(&piece[..room as usize]) {
+                Ok(()) => {}
+                Err(_) => return Err(NoMemory),
+            }
             return Ok(Stream {
                 bytes,
                 end: StreamEnd::TooLong,
@@ -78,14 +88,17 @@ pub fn read_stream<S: Source>(alloc: Global, from: &mut S, limit: u64) -> Result
     unreachable!()
 }
 
-/// Reads all bytes up to the end, at most `limit` of them. Whatever it answers, a front of what
-/// was left is gone.
+/// Reads all bytes up to the end, at most `limit` of them. The count of faults rises where it
+/// answers `Failed` and nowhere else. Whatever it answers, a front of what was left is gone.
 pub fn read_all<S: Source>(alloc: Global, from: &mut S, limit: u64) -> Result<Vec<u8>, ReadError>
     ensures bytes { IfOk result (λ v. Consumes (S.left from.old) (S.left from.new) v.items) }
     ensures end { OnOk result (IsAtEnd (S.left from.new)) }
     ensures size { IfOk result (λ v. length v.items ≤ limit) }
     ensures failed { IsErrOf result ReadError.Failed → Rose (S.faults from.old) (S.faults from.new) }
     ensures long { IsErrOf result ReadError.TooLong → IsLonger (S.left from.old) limit }
+    ensures still { OnOk result (S.faults from.new ≡ S.faults from.old) }
+    ensures still_long { IsErrOf result ReadError.TooLong → S.faults from.new ≡ S.faults from.old }
+    ensures still_refused { IsErrOf result ReadError.NoMemory → S.faults from.new ≡ S.faults from.old }
     ensures later { S.faults from.old ≤ S.faults from.new }
     ensures front { LosesFront (S.left from.old) (S.left from.new) }
 {
@@ -100,7 +113,8 @@ pub fn read_all<S: Source>(alloc: Global, from: &mut S, limit: u64) -> Result<Ve
     }
 }
 
-/// Opens a name, reads it whole, at most `limit` bytes of it, and keeps it back.
+/// Opens a name, reads it whole, at most `limit` bytes of it, and keeps it back. Where it answers
+/// the bytes no count rose.
 pub fn read_name<P: Place>(
     alloc: Global,
     place: &mut P,
@@ -115,6 +129,8 @@ pub fn read_name<P: Place>(
     ensures failed_here { IsErrOf result ReadError.Failed
         → (Rose (P.counts place.old name.now).source_openings (P.counts place.new name.now).source_openings
         ⊎ Rose (P.counts place.old name.now).source_faults (P.counts place.new name.now).source_faults) }
+    ensures still { OnOk result (P.read_faults place.new ≡ P.read_faults place.old) }
+    ensures still_here { OnOk result (P.counts place.new name.now ≡ P.counts place.old name.now) }
     ensures later { P.read_faults place.old ≤ P.read_faults place.new }
     ensures other_kind { P.write_faults place.new ≡ P.write_faults place.old }
     ensures only_kind { ReadsSource (P.counts place.old name.now) (P.counts place.new name.now) }

@@ -18,6 +18,10 @@ goes_by {a = a} {b = b} {c = c} {p = p} {q = q} {r = r} {x = x} {y = y} z e h g 
 goes_by {a = a} {b = b} {c = c} {p = p} {q = q} {r = r} {x = x} {y = y} z e h g false m n =
     sends_then a b c (waiting p ++ x) (waiting q) y (waiting p ++ z) (waiting r) (ap (λ w. waiting p ++ w) e ∙ sym (append_assoc (waiting p) x y)) (h.goes m) (g.goes n)
 
+still_by : {a b c : Option (List ℕ)} {i j k : ℕ} {p q r : Page} {x y : List ℕ} → Puts a b i j p q x → Puts b c j k q r y → (m : Bool) → q.failed ≡ m → r.failed ≡ false → k ≡ i
+still_by {r = r} h g true m n = neither r.failed ((g.stays m).0) n
+still_by {r = r} h g false m n = g.still n ∙ h.still m
+
 fails_by : {a b c : Option (List ℕ)} {i j k : ℕ} {p q r : Page} {x y : List ℕ} (z : List ℕ) → z ≡ x ++ y → Puts a b i j p q x → Puts b c j k q r y
     → (m : Bool) → q.failed ≡ m → p.failed ≡ false → r.failed ≡ true → AppendsFront a c (waiting p ++ z) × Rose i k
 fails_by {a = a} {b = b} {c = c} {i = i} {j = j} {k = k} {p = p} {q = q} {r = r} {x = x} {y = y} z e h g true m o n = (
@@ -34,6 +38,7 @@ puts_both {a = a} {b = b} {c = c} {i = i} {j = j} {k = k} {p = p} {q = q} {r = r
   later = omega (arith, h.later, g.later);
   stays = λ m. ((g.stays ((h.stays m).0)).0, keeps_then a b c ((h.stays m).1) ((g.stays ((h.stays m).0)).1));
   goes = goes_by z e h g q.failed refl;
+  still = still_by h g q.failed refl;
   fails = fails_by z e h g q.failed refl;
 }
 
@@ -46,6 +51,7 @@ puts_none a i p x h = record {
   later = omega arith;
   stays = λ m. (h, keeps_itself a);
   goes = λ m. neither p.failed h m;
+  still = λ m. refl;
   fails = λ m n. neither p.failed n m;
 }
 
@@ -59,6 +65,7 @@ puts_waiting a i p q x e f = record {
   later = omega arith;
   stays = λ m. (f ∙ m, keeps_itself a);
   goes = λ m. rw e (sends_none a (waiting p ++ x));
+  still = λ m. refl;
   fails = λ m n. neither p.failed (sym f ∙ n) m;
 }
 

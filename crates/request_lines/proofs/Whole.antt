@@ -1,9 +1,9 @@
 -- A text that was put on an empty page and sent whole.
 use Rattle.std.proofs.Common.{◌≡◌, ℕ, true, false, List, [], ◌++◌, Option, Some, None, ap, sym, ◌∙◌}
-use Rattle.std.specs.Prelude.{Result, Ok, Err, OnErr}
+use Rattle.std.specs.Prelude.{Result, Ok, Err, OnOk, OnErr}
 use Rattle.std.proofs.lemmas.List.{append-nil}
 use Rattle.std.specs.Io.KnownBytes.{Appends}
-use Rattle.pcg_base.specs.Causes.{Rose}
+use Rattle.pcg_base.specs.Causes.{Rose, HasCause}
 use Rattle.pcg_base.specs.Told.{AppendsFront}
 use Rattle.request_lines.specs.declared.page.Page.{Page}
 use Rattle.request_lines.specs.Sent.{Sends, Puts, waiting}
@@ -29,6 +29,23 @@ pub whole_cause : {a b c : Option (List ℕ)} {i j k : ℕ} {p q r : Page} {t : 
     → r.failed ≡ true → Rose i k
 whole_cause {t = t} f h g m = ((puts_both t (sym (append-nil t)) h g).fails f m).1
 
+pub whole_still : {a b c : Option (List ℕ)} {i j k : ℕ} {p q r : Page} {t : List ℕ} → Puts a b i j p q t → Puts b c j k q r []
+    → r.failed ≡ false → k ≡ i
+whole_still {t = t} h g m = (puts_both t (sym (append-nil t)) h g).still m
+
+pub on_ok_then : {A B T E : Type 0} (r : Result T E) → (A → B) → OnOk r A → OnOk r B
+on_ok_then (Ok x) f h = f h
+on_ok_then (Err e) f h = tt
+
 pub on_err_then : {A B T E : Type 0} (r : Result T E) → (A → B) → OnErr r A → OnErr r B
 on_err_then (Ok x) f h = tt
 on_err_then (Err e) f h = f h
+
+-- the count of a call that put a text on an empty page and sent the rest
+pub whole_has_cause : {T E : Type 0} {a b c : Option (List ℕ)} {i j k : ℕ} {p q r : Page} {t : List ℕ} (result : Result T E) → p.failed ≡ false → Puts a b i j p q t → Puts b c j k q r []
+    → OnOk result (r.failed ≡ false) → OnErr result (r.failed ≡ true) → HasCause i k result
+whole_has_cause {t = t} result f h g ok err = record {
+  later = (puts_both t (sym (append-nil t)) h g).later;
+  still = on_ok_then result (whole_still h g) ok;
+  failed = on_err_then result (whole_cause f h g) err;
+}

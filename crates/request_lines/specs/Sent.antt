@@ -21,4 +21,5 @@ pub record Puts (held held' : Option (List ℕ)) (count count' : ℕ) (page page
   pub later : count ≤ count'
   pub stays : page.failed ≡ true → (page'.failed ≡ true) × Keeps held held'
   pub goes : page'.failed ≡ false → Sends held held' (waiting page ++ text) (waiting page')
+  pub still : page'.failed ≡ false → count' ≡ count
   pub fails : page.failed ≡ false → page'.failed ≡ true → AppendsFront held held' (waiting page ++ text) × Rose count count'

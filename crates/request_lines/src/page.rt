@@ -1,6 +1,7 @@
 //! A page on which a text waits for its sink.
 
 ghost use Rattle.std.specs.Prelude.{◌≡◌, ◌≤◌, ◌<◌, ◌++◌, [], length, take, false, true, codes, decimal, OnOk, OnErr};
+ghost use Rattle.pcg_base.specs.Told.{IsFlushed};
 
 use itoa::Buffer;
 use node_ids::NodeId;
@@ -118,10 +119,12 @@ impl Page {
     }
 
     /// Sends what still waits, and flushes the sink. `Failed` says that a write or the flush failed.
+    /// Else all that the sink holds is flushed.
     pub fn finish<K: Sink>(&mut self, out: &mut K) -> Result<(), Failed>
         ensures puts { Puts (K.held out.old) (K.held out.new) (K.faults out.old) (K.faults out.new) self.old self.new [] }
         ensures ok { OnOk result (self.new.failed ≡ false) }
         ensures err { OnErr result (self.new.failed ≡ true) }
+        ensures flushed { OnOk result (IsFlushed (K.held out.new) (K.flushed out.new)) }
         ensures empty { self.new.failed ≡ false → waiting self.new ≡ [] }
     {
         self.send(out);

@@ -3,7 +3,7 @@
 ghost use Rattle.std.specs.Prelude.{◌≡◌, ◌++◌, ℕ, List, Some, None, map, OnOk, OnErr};
 ghost use Rattle.std.specs.Io.KnownBytes.{Appends};
 ghost use Rattle.pcg_base.specs.Causes.{HasCause};
-ghost use Rattle.pcg_base.specs.Told.{AppendsFront};
+ghost use Rattle.pcg_base.specs.Told.{AppendsFront, IsFlushed};
 ghost use Rattle.request_lines.specs.Sent.{Puts};
 ghost use Rattle.request_lines.specs.Texts.{edited_text, ids_text, text_of_reply};
 
@@ -147,12 +147,14 @@ fn put_reply<K: Sink>(page: &mut Page, out: &mut K, reply: &Reply)
 }
 
 /// Writes a reply: its text and a line feed, in pieces of 8,192 bytes, the last one shorter, and a
-/// flush. After `Failed`, which comes only where a write or the flush failed, a front of the text
-/// was written. It takes no memory.
-#[tactic(auto, using(crate::proofs::Whole::whole_ok, crate::proofs::Whole::whole_err, crate::proofs::Whole::whole_cause))]
+/// flush, behind which all that the sink holds is flushed. After `Failed`, which comes only where a
+/// write or the flush failed, a front of the text was written, the whole of it where the flush
+/// failed. It takes no memory.
+#[tactic(auto, using(crate::proofs::Whole::whole_ok))]
 pub fn write_reply<K: Sink>(reply: &Reply, out: &mut K) -> Result<(), Failed>
     ensures ok { OnOk result (Appends (K.held out.old) (K.held out.new) (text_of_reply reply.now)) }
     ensures err { OnErr result (AppendsFront (K.held out.old) (K.held out.new) (text_of_reply reply.now)) }
+    ensures flushed { OnOk result (IsFlushed (K.held out.new) (K.flushed out.new)) }
     ensures cause { HasCause (K.faults out.old) (K.faults out.new) result }
 {
     let mut page = Page::new();

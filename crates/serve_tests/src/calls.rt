@@ -73,6 +73,7 @@ fn files_of(alloc: Global, outside: &Outside<'_>) -> Result<Vec<MemFile>, Fail> 
                 bytes: Vec::from_slice(alloc, bytes)?,
                 read_fails: fails_of(alloc, outside, name)?,
                 write_fails: fails_of(alloc, outside, name)?,
+                flush_fails: Vec::new(alloc),
             })?;
         }
     }

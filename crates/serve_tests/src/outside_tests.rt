@@ -39,7 +39,7 @@ fn a_failed_read_loses_nothing(rt: HostRuntime) -> Result<(), Fail> {
 #[test]
 fn writes_in_pieces(rt: HostRuntime) -> Result<(), Fail> {
     let alloc = rt.alloc();
-    let mut sink = MemSink::new(alloc, 2, 7, vec![in alloc; 5]?)?;
+    let mut sink = MemSink::with_flush_fails(alloc, 2, 7, vec![in alloc; 5]?, vec![in alloc; 2]?)?;
     for (piece, written) in [
         (b"".as_slice(), true),
         (b"hello", true),
@@ -49,8 +49,10 @@ fn writes_in_pieces(rt: HostRuntime) -> Result<(), Fail> {
     ] {
         assert_eq!(rt; write_all(&mut sink, piece).is_ok(), written);
     }
-    assert!(rt; sink.flush().is_ok());
-    assert_eq!(rt; sink.faults(), 2);
+    for flushed in [true, false, true] {
+        assert_eq!(rt; sink.flush().is_ok(), flushed);
+    }
+    assert_eq!(rt; sink.faults(), 3);
     assert_eq!(rt; sink.bytes(), b"helloxz".as_slice());
     Ok(())
 }
@@ -63,12 +65,14 @@ fn two_files(alloc: Global) -> Result<MemPlace, Fail> {
             bytes: Vec::from_slice(alloc, b"one")?,
             read_fails: Vec::new(alloc),
             write_fails: Vec::new(alloc),
+            flush_fails: Vec::new(alloc),
         },
         MemFile {
             name: String::from_str(alloc, "b")?,
             bytes: Vec::from_slice(alloc, b"two")?,
             read_fails: vec![in alloc; 2]?,
             write_fails: vec![in alloc; 1]?,
+            flush_fails: Vec::new(alloc),
         },
     ]?;
     Ok(MemPlace::new(alloc, files, 1, 16)?)

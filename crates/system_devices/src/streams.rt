@@ -81,6 +81,8 @@ impl<W: Write + Drop> Sink for Outgoing<W> {
 
     ghost held = { λ _. None };
 
+    ghost flushed = { λ _. None };
+
     ghost faults = { λ k. faults_out k };
 
     /// Writes again where a signal broke in. Any other error is counted, and so is a write that

@@ -1,6 +1,6 @@
 use Rattle.std.proofs.Common.{true, refl, ap, Some}
 use Rattle.memory_devices.specs.declared.kept.Kept.{Kept}
-use Rattle.memory_devices.specs.Kept.{bytes_of, left_of, source_faults_of, sink_faults_of, opened_in_of, opened_out_of, read_fails_of, write_fails_of}
+use Rattle.memory_devices.specs.Kept.{bytes_of, left_of, source_faults_of, sink_faults_of, opened_in_of, opened_out_of, fails_of}
 use Rattle.memory_devices.proofs.Entries.{written, view_kept, changed_here, flag_stays}
 use Rattle.memory_devices.proofs.Maps.{same_files}
 use Rattle.memory_devices.proofs.kept.open_in.Goals as goal
@@ -54,16 +54,9 @@ returns-clause-stays_out c n =
     let w = written c.args.name.now c.args.kept.now.items c.args.i l k c.requires.first c.index_mut.ensures.value refl in
     view_kept opened_out_of c.args.name.now n c.args.kept.now.items _ k (Some l) w.0 w.1 refl
 
-pub returns-clause-read_fails : goal.returns-clause-read_fails
-returns-clause-read_fails c n =
+pub returns-clause-fails : goal.returns-clause-fails
+returns-clause-fails c n =
     let l : Kept = c.index_mut.result.now in
     let k : Kept = record l { opened_in = true } in
     let w = written c.args.name.now c.args.kept.now.items c.args.i l k c.requires.first c.index_mut.ensures.value refl in
-    view_kept read_fails_of c.args.name.now n c.args.kept.now.items _ k (Some l) w.0 w.1 refl
-
-pub returns-clause-write_fails : goal.returns-clause-write_fails
-returns-clause-write_fails c n =
-    let l : Kept = c.index_mut.result.now in
-    let k : Kept = record l { opened_in = true } in
-    let w = written c.args.name.now c.args.kept.now.items c.args.i l k c.requires.first c.index_mut.ensures.value refl in
-    view_kept write_fails_of c.args.name.now n c.args.kept.now.items _ k (Some l) w.0 w.1 refl
+    view_kept fails_of c.args.name.now n c.args.kept.now.items _ k (Some l) w.0 w.1 refl

@@ -1,6 +1,6 @@
 use Rattle.std.proofs.Common.{◌<◌, ◌≤◌, ◌^◌, arith, refl, ap, sym, ◌∙◌, ◌≡◌, Some, rules}
 use Rattle.memory_devices.specs.declared.kept.Kept.{Kept}
-use Rattle.memory_devices.specs.Kept.{left_of, source_faults_of, sink_faults_of, opened_in_of, opened_out_of, read_fails_of, write_fails_of}
+use Rattle.memory_devices.specs.Kept.{left_of, source_faults_of, sink_faults_of, opened_in_of, opened_out_of, fails_of}
 use Rattle.pcg_base.specs.Causes.{added}
 use Rattle.memory_devices.proofs.Entries.{written, view_kept, changed_here, changed_elsewhere}
 use Rattle.memory_devices.proofs.Maps.{files_put}
@@ -68,16 +68,9 @@ returns-clause-later c =
     let is = ap sink_faults_of (changed_here c.args.name.now c.args.kept.now.items _ k w.0) in
     omega (arith, was, is, more)
 
-pub returns-clause-read_fails : goal.returns-clause-read_fails
-returns-clause-read_fails c n =
+pub returns-clause-fails : goal.returns-clause-fails
+returns-clause-fails c n =
     let l : Kept = c.index_mut-entry.result.now in
     let k : Kept = record l { sink_faults = c.saturating_add-entry.result; file = record l.file { bytes = c.args.bytes } } in
     let w = written c.args.name.now c.args.kept.now.items c.args.i l k c.requires.first c.index_mut-entry.ensures.value refl in
-    view_kept read_fails_of c.args.name.now n c.args.kept.now.items _ k (Some l) w.0 w.1 refl
-
-pub returns-clause-write_fails : goal.returns-clause-write_fails
-returns-clause-write_fails c n =
-    let l : Kept = c.index_mut-entry.result.now in
-    let k : Kept = record l { sink_faults = c.saturating_add-entry.result; file = record l.file { bytes = c.args.bytes } } in
-    let w = written c.args.name.now c.args.kept.now.items c.args.i l k c.requires.first c.index_mut-entry.ensures.value refl in
-    view_kept write_fails_of c.args.name.now n c.args.kept.now.items _ k (Some l) w.0 w.1 refl
+    view_kept fails_of c.args.name.now n c.args.kept.now.items _ k (Some l) w.0 w.1 refl

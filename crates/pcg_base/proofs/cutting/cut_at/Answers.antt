@@ -1,4 +1,4 @@
-use Rattle.std.proofs.Common.{◌≡◌, ℕ, ◌+◌, List, take, drop, Some, option_map, position, sym, ◌∙◌, ap, rules, ◌==◌}
+use Rattle.std.proofs.Common.{rules}
 use Rattle.pcg_base.proofs.Cuts.{cut_here}
 use Rattle.pcg_base.proofs.cutting.cut_at.Goals as goal
 
