@@ -20,3 +20,11 @@ stops_at (found.Long n) = false
 stops_at found.End = true
 stops_at found.ReadFault = true
 stops_at found.TooLong = true
+
+-- the source failed
+abbrev pub is_fault : Found → Bool
+is_fault (found.Line from to) = false
+is_fault (found.Long n) = false
+is_fault found.End = false
+is_fault found.ReadFault = true
+is_fault found.TooLong = false

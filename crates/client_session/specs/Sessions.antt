@@ -61,6 +61,14 @@ stops_after reads.End = true
 stops_after reads.ReadFault = true
 stops_after reads.TooLong = true
 
+-- the source failed
+abbrev pub tells_fault : LineRead → Bool
+tells_fault (reads.Line line) = false
+tells_fault (reads.Long n) = false
+tells_fault reads.End = false
+tells_fault reads.ReadFault = true
+tells_fault reads.TooLong = false
+
 -- the answer for what is held, if that many bytes were given before, and what waits after it
 abbrev pub Answers : LineRead → ℕ → List ℕ → List ℕ → Bool → Bool → Option (List ℕ) → ℕ → ℕ → Type 0
 Answers (reads.Line line) given held rest was over left before now = (length line.now ≤ 65536) × IsNext line.now over given held rest left
@@ -79,6 +87,7 @@ pub record NextLine {S K : Type 0} (left : S → Option (List ℕ)) (faults : S 
   pub closed : is_over old ≡ true → answer ≡ reads.End
   pub first : list_any (λ b. b == 10) (waiting_in old) ≡ true → source_of new ≡ source_of old
   pub later : faults (source_of old) ≤ faults (source_of new)
+  pub still : tells_fault answer ≡ false → faults (source_of new) ≡ faults (source_of old)
   pub client : client_of new ≡ client_of old
   pub sink : sink_of new ≡ sink_of old
   pub tally : tally_of new ≡ tally_of old

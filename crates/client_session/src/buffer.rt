@@ -5,7 +5,7 @@ ghost use Rattle.std.specs.List.{list_any};
 ghost use Rattle.std.specs.Io.KnownBytes.{Consumes, ReadConsumes, Keeps, IsAtEnd};
 ghost use Rattle.pcg_base.specs.Causes.{Rose, HasCause};
 ghost use Rattle.client_session.specs.Feeds.{NoFeed, FeedAt};
-ghost use Rattle.client_session.specs.Finding.{Finds};
+ghost use Rattle.client_session.specs.Finding.{Finds, is_fault};
 
 use crate::feeds::first_feed;
 use crate::found::Found;
@@ -205,6 +205,7 @@ impl LineBuffer {
         ensures closed { self.old.over ≡ true → result ≡ Found.End }
         ensures first { list_any (λ b. b == 10) (waiting self.old) ≡ true → source.new ≡ source.old }
         ensures later { S.faults source.old ≤ S.faults source.new }
+        ensures still { is_fault result ≡ false → S.faults source.new ≡ S.faults source.old }
     {
         if self.over {
             return Found::End;

@@ -4,7 +4,7 @@ ghost use Rattle.std.specs.Prelude.{⊤, ◌≡◌, ◌==◌, ◌≤◌, ◌+◌
 ghost use Rattle.std.specs.Borrow.{sem};
 ghost use Rattle.std.specs.List.{list_any};
 ghost use Rattle.std.specs.Io.KnownBytes.{Consumes};
-ghost use Rattle.client_session.specs.Finding.{Finds, stops_at};
+ghost use Rattle.client_session.specs.Finding.{Finds, is_fault, stops_at};
 
 use crate::buffer::LineBuffer;
 use crate::found::{Found, stops};
@@ -131,6 +131,7 @@ impl<S: Source + Drop, K: Sink + Drop> Session<S, K> {
         ensures closed { is_over self.old ≡ true → result ≡ Found.End }
         ensures first { list_any (λ b. b == 10) (waiting_in self.old) ≡ true → source_of self.new ≡ source_of self.old }
         ensures later { S.faults (source_of self.old) ≤ S.faults (source_of self.new) }
+        ensures still { is_fault result ≡ false → S.faults (source_of self.new) ≡ S.faults (source_of self.old) }
         ensures client { client_of self.new ≡ client_of self.old }
         ensures sink { sink_of self.new ≡ sink_of self.old }
         ensures tally { tally_of self.new ≡ tally_of self.old }

@@ -1,0 +1,5 @@
+pub mod Records
+mod Steps
+pub mod Places
+pub mod Plain
+mod Lines

@@ -1,0 +1,24 @@
+//! Input that is made from one number: the two tables of a base, and a request stream for each client.
+//!
+//! The promise: [`make_tables`] gives exactly the bytes that the generator's definition gives for a
+//! wish, or answers that it is out of memory. Read as CSV, each table has the records that it was
+//! made of, and no others ([`laws::tables_have_rows`]).
+//!
+//! - `wish`: what is wished for;
+//! - `draws`: numbers drawn from a state;
+//! - `edges`: supervoxels and edges;
+//! - `texts`: tables and requests as texts;
+//! - `streams`: request streams, and the call;
+//! - `laws`: laws of what is made, each the contract of a function that does nothing.
+#![tactic(auto)]
+
+mod draws;
+mod edges;
+pub mod laws;
+mod streams;
+mod texts;
+mod wish;
+
+pub use edges::MadeEdge;
+pub use streams::{MadeInput, make_tables};
+pub use wish::Wish;

@@ -1,0 +1,6 @@
+mod Rules
+mod Walks
+mod Faults
+mod Uses
+mod Lines
+mod Simple

@@ -1,0 +1,5 @@
+pub mod Grammar
+pub mod Command
+pub mod Found
+pub mod Spelled
+pub mod Laws
