@@ -1,19 +1,19 @@
 //! The operation log, read from record rows: how many entries there are, what each one is, and
 //! which were there at a time.
 //!
-//! `length`, `head`, `last_about`, `prefix_at` and `next_entry` answer from the records of entries
-//! alone: what the records of edges, changes and items hold counts for nothing but for their kinds
-//! (`ParentImage` of record_rows). The other calls need the whole image. No call changes what a
-//! contract sees of the words. An entry is found by halving places, so a call by an entry's number
-//! takes a logarithm of the records; [`next_entry`] leads through the log in one pass. Calls whose
-//! names end with `_at` take the place of an entry's record.
+//! `length`, `head`, `last_about`, `prefix_at` and `next_entry` answer from the records of nodes,
+//! links and entries: what the records of edges, changes and items hold counts for nothing but for
+//! their kinds (`ParentImage` of record_rows). The other calls need the whole image. No call
+//! changes what a contract sees of the words. An entry is found by halving places, so a call by an
+//! entry's number takes a logarithm of the records; [`next_entry`] leads through the log in one
+//! pass. Calls whose names end with `_at` take the place of an entry's record.
 //!
-//! The promise: from the records of entries alone, [`length`] says how many entries there are,
-//! [`head`] what an entry's record tells, [`last_about`] which entry is the last one about an
-//! operation, and [`prefix_at`] which prefix a time means, or why it means none. Over the whole
-//! image, [`asked`] gives what was asked, in request order, and [`changed`] and [`all_changed`]
-//! the changed pairs, ascending; [`last_about_by_changes`] gives what [`last_about`] does, along
-//! the changes of one pair.
+//! The promise: from the records of nodes, links and entries, [`length`] says how many entries
+//! there are, [`head`] what an entry's record tells, [`last_about`] which entry is the last one
+//! about an operation, and [`prefix_at`] which prefix a time means, or why it means none. Over the
+//! whole image, [`asked`] gives what was asked, in request order, and [`changed`] and
+//! [`all_changed`] the changed pairs, ascending; [`last_about_by_changes`] gives what
+//! [`last_about`] does, along the changes of one pair.
 //!
 //! - `heads`: how many entries there are, and what one's record tells
 //! - `times`: which entries were there at a time
