@@ -2,7 +2,7 @@
 //! public call once at concrete types, the texts of replies, entries and lines as they are printed, each cause for which
 //! a line, a table or a command line is refused, and sinks that fail.
 //!
-//! What is wanted was worked out by hand, or is a row of the worked sessions.
+//! What is wanted was worked out by hand, is a row of the worked sessions, or was made by a second program.
 //!
 //! - `ids`: ids, their parts and their digits
 //! - `chunks`: grids, layers and levels
@@ -11,6 +11,8 @@
 //! - `lines`: the requests of lines, and the answers to lines that are none
 //! - `tables`: the base that two tables spell, and each cause in its place
 //! - `words`: the words of the command line
+//! - `options`: command lines of options and stems
+//! - `inputs`: tables and request streams that are made from a number
 #![tactic(auto)]
 
 #[cfg(test)]
@@ -18,7 +20,11 @@ mod chunks;
 #[cfg(test)]
 mod ids;
 #[cfg(test)]
+mod inputs;
+#[cfg(test)]
 mod lines;
+#[cfg(test)]
+mod options;
 #[cfg(test)]
 mod pairs;
 #[cfg(test)]
