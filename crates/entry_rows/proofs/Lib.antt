@@ -8,3 +8,4 @@ mod PlaceLists
 mod Begins
 mod Behind
 mod Phases
+mod LogFacts

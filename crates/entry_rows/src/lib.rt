@@ -8,7 +8,7 @@
 //! - `drafting`: all records, one kind behind the other
 //! - `edges`: the edges
 //! - `items`: the ids of the request
-//! - `laws`: which nodes an entry retires
+//! - `laws`: what the lists of an entry behind a log tell
 //! - `links`: the links
 //! - `lists`: the records by their places
 //! - `nodes`: the nodes
