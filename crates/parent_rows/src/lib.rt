@@ -1,9 +1,9 @@
 //! Nodes and their parents, read from record rows: the record of an id, the nodes of a chunk, the
 //! parents and children of a node, and which entry retired it.
 //!
-//! Each answer is that of the log that the words stand for, and what the records of edges, changes
-//! and items hold counts for nothing: `ParentImage` of record_rows says which words are meant. No
-//! call changes what a contract sees of the words.
+//! Each answer is that of the log that the words stand for. What the records of edges, changes and
+//! items hold counts for nothing but for their kinds: `ParentImage` of record_rows says which words
+//! are meant. No call changes what a contract sees of the words.
 //!
 //! The promise: [`find`] and [`chunk`] give the record of an id or a chunk, or say that there is
 //! none; [`node`] what a node's record tells; [`children`] its children, ascending;

@@ -10,4 +10,3 @@ pub mod Walks
 pub mod Sorted
 pub mod Ascending
 pub mod Laws
-pub mod Inner
