@@ -8,7 +8,8 @@ use std::alloc::Global;
 use std::test::Fail;
 
 /// What a call meets: its files, of which two may be missing, whether each device goes by single
-/// bytes, and the one call that fails, of the file so named, or of the output where that is `out`.
+/// bytes, and the one call that fails, of the file so named, or of the output where that is `out`:
+/// one of its reads and writes, or one of its flushes.
 #[derive(Clone, Copy)]
 pub struct Outside<'a> {
     pub supervoxels: &'a [u8],
@@ -18,6 +19,7 @@ pub struct Outside<'a> {
     pub single: bool,
     pub failing: &'a str,
     pub number: u32,
+    pub flush: bool,
 }
 
 /// The usual tables and requests, with devices that don't fail.
@@ -30,6 +32,7 @@ pub fn usual<'a>() -> Outside<'a> {
         single: false,
         failing: "",
         number: 0,
+        flush: false,
     }
 }
 
@@ -50,10 +53,15 @@ pub fn words_of(alloc: Global, text: &str) -> Result<Vec<Vec<u8>>, Fail> {
     Ok(words)
 }
 
-/// The calls of a device that fail.
-fn fails_of(alloc: Global, outside: &Outside<'_>, name: &str) -> Result<Vec<u32>, Fail> {
+/// The reads and writes of a device that fail, or its flushes that do.
+fn fails_of(
+    alloc: Global,
+    outside: &Outside<'_>,
+    name: &str,
+    flush: bool,
+) -> Result<Vec<u32>, Fail> {
     let mut fails = Vec::new(alloc);
-    if name == outside.failing {
+    if name == outside.failing && flush == outside.flush {
         fails.push(outside.number)?;
     }
     Ok(fails)
@@ -71,9 +79,9 @@ fn files_of(alloc: Global, outside: &Outside<'_>) -> Result<Vec<MemFile>, Fail> 
             files.push(MemFile {
                 name: String::from_str(alloc, name)?,
                 bytes: Vec::from_slice(alloc, bytes)?,
-                read_fails: fails_of(alloc, outside, name)?,
-                write_fails: fails_of(alloc, outside, name)?,
-                flush_fails: Vec::new(alloc),
+                read_fails: fails_of(alloc, outside, name, false)?,
+                write_fails: fails_of(alloc, outside, name, false)?,
+                flush_fails: fails_of(alloc, outside, name, true)?,
             })?;
         }
     }
@@ -90,12 +98,10 @@ fn place_of(alloc: Global, outside: &Outside<'_>) -> Result<MemPlace, Fail> {
 }
 
 fn out_of(alloc: Global, outside: &Outside<'_>) -> Result<MemSink, Fail> {
-    let fails = fails_of(alloc, outside, "out")?;
-    if outside.single {
-        Ok(MemSink::new(alloc, 1, 65536, fails)?)
-    } else {
-        Ok(MemSink::new(alloc, 65536, 65536, fails)?)
-    }
+    let fails = fails_of(alloc, outside, "out", false)?;
+    let flush_fails = fails_of(alloc, outside, "out", true)?;
+    let piece = if outside.single { 1 } else { 65536 };
+    Ok(MemSink::with_flush_fails(alloc, piece, 65536, fails, flush_fails)?)
 }
 
 /// One call of the program with these words.

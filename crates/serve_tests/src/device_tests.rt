@@ -81,6 +81,38 @@ fn each_call_fails(rt: HostRuntime) -> Result<(), Fail> {
     Ok(())
 }
 
+/// A reply whose flush fails is its client's fault, and a failed flush of the output ends with status 4.
+#[test]
+fn each_flush_fails(rt: HostRuntime) -> Result<(), Fail> {
+    let first = b"{\"ok\":true,\"root\":\"216172782113783809\",\"seen\":1}\n".as_slice();
+    for (failing, number, answers, summary) in [
+        (
+            "first.ans",
+            1,
+            first,
+            b"{\"accepted\":0,\"clients\":1,\"entries\":1,\"faults\":[[1,\"WriteFault\"]],\"lines\":0,\"records\":24,\"refused\":0,\"roots\":2,\"status\":4}\n".as_slice(),
+        ),
+        (
+            "first.ans",
+            2,
+            REPLIES,
+            b"{\"accepted\":0,\"clients\":1,\"entries\":1,\"faults\":[[1,\"WriteFault\"]],\"lines\":1,\"records\":24,\"refused\":0,\"roots\":2,\"status\":4}\n",
+        ),
+        ("out", 1, REPLIES, b""),
+        ("out", 2, REPLIES, SUMMARY),
+    ] {
+        let outside = Outside {
+            failing,
+            number,
+            flush: true,
+            ..usual()
+        };
+        let ran = call(rt.alloc(), &outside)?;
+        assert!(rt; ends_so(&ran, 4, answers, summary), "{failing} {number}");
+    }
+    Ok(())
+}
+
 /// The lines that came whole before a read failed are answered, and what was written stays.
 #[test]
 fn answers_before_a_fault(rt: HostRuntime) -> Result<(), Fail> {

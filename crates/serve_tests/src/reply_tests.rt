@@ -137,27 +137,77 @@ fn tables_of_another_form(rt: HostRuntime) -> Result<(), Fail> {
     Ok(())
 }
 
+/// The first entry has the clock's start as its time.
+#[test]
+fn clocks_of_other_starts(rt: HostRuntime) -> Result<(), Fail> {
+    for (words, out) in [
+        (
+            "rehearse --bits 8 --grid 1,1,1 --supervoxels supervoxels.csv --edges edges.csv --merge-affinity 1 --clock 0,10 first",
+            b"{\"at\":0,\"changed\":[],\"client\":0,\"line\":0,\"made\":[\"144115188075855873\"],\"op\":0,\"request\":{\"do\":\"ingest\"},\"retired\":[]}\n{\"accepted\":0,\"clients\":1,\"entries\":1,\"faults\":[],\"lines\":0,\"records\":6,\"refused\":0,\"roots\":1,\"status\":0}\n".as_slice(),
+        ),
+        (
+            "rehearse --bits 8 --grid 1,1,1 --supervoxels supervoxels.csv --edges edges.csv --merge-affinity 1 --clock 4611686018427387903,1 first",
+            b"{\"at\":4611686018427387903,\"changed\":[],\"client\":0,\"line\":0,\"made\":[\"144115188075855873\"],\"op\":0,\"request\":{\"do\":\"ingest\"},\"retired\":[]}\n{\"accepted\":0,\"clients\":1,\"entries\":1,\"faults\":[],\"lines\":0,\"records\":6,\"refused\":0,\"roots\":1,\"status\":0}\n",
+        ),
+    ] {
+        let outside = Outside {
+            supervoxels: b"supervoxel\n72057594037927937\n",
+            edges: b"a,b,affinity,active\n",
+            requests: b"",
+            ..usual()
+        };
+        let ran = call_with(rt.alloc(), words, &outside)?;
+        assert_eq!(rt; ran.status, 0);
+        assert!(rt; ran.out.as_slice() == out, "{words}");
+    }
+    Ok(())
+}
+
+/// Requests that break off at once, within their last line and behind it, and answers that do.
 #[test]
 fn sessions_that_break_off(rt: HostRuntime) -> Result<(), Fail> {
-    for (failing, status, summary) in [
+    let first = b"{\"ok\":true,\"root\":\"216172782113783809\",\"seen\":1}\n".as_slice();
+    for (failing, number, status, answers, summary) in [
         (
             "first.req",
+            1,
             2,
+            b"".as_slice(),
             b"{\"accepted\":0,\"clients\":1,\"entries\":1,\"faults\":[[1,\"ReadFault\"]],\"lines\":0,\"records\":24,\"refused\":0,\"roots\":2,\"status\":2}\n".as_slice(),
         ),
         (
+            "first.req",
+            78,
+            2,
+            first,
+            b"{\"accepted\":0,\"clients\":1,\"entries\":1,\"faults\":[[1,\"ReadFault\"]],\"lines\":1,\"records\":24,\"refused\":0,\"roots\":2,\"status\":2}\n",
+        ),
+        (
+            "first.req",
+            79,
+            2,
+            REPLIES,
+            b"{\"accepted\":0,\"clients\":1,\"entries\":1,\"faults\":[[1,\"ReadFault\"]],\"lines\":2,\"records\":24,\"refused\":0,\"roots\":2,\"status\":2}\n",
+        ),
+        (
             "first.ans",
+            1,
             4,
+            b"",
             b"{\"accepted\":0,\"clients\":1,\"entries\":1,\"faults\":[[1,\"WriteFault\"]],\"lines\":0,\"records\":24,\"refused\":0,\"roots\":2,\"status\":4}\n",
         ),
     ] {
         let outside = Outside {
+            single: true,
             failing,
-            number: 1,
+            number,
             ..usual()
         };
         let ran = call(rt.alloc(), &outside)?;
-        assert!(rt; ends_so(&ran, status, b"", summary), "{failing}");
+        assert!(rt;
+            ends_so(&ran, status, answers, summary),
+            "{failing} {number}"
+        );
     }
     Ok(())
 }
