@@ -4,8 +4,8 @@ ghost use Rattle.std.specs.Prelude.{◌≡◌};
 ghost use Rattle.row_tests.specs.Kinds.{IsSample};
 
 use log_rows::{
-    Head, TimeRefusal, all_changed, asked, entry_spot, first_change, head, last_about, length,
-    prefix_at,
+    Head, TimeRefusal, all_changed, asked, entry_spot, first_change, head, last_about,
+    last_about_by_changes, length, next_entry, prefix_at,
 };
 use op_model::{Asked, ChangedPairs, Entry};
 use pcg_base::{NoMemory, VecWords};
@@ -38,6 +38,21 @@ pub fn entry_row(w: &mut VecWords, n: u32) -> Option<(Head, Spot, Option<Spot>, 
         let first = first_change(w, n);
         let last = last_about(w, n);
         Some((told, spot, first, last))
+    } else {
+        None
+    }
+}
+
+/// The place of the next entry's record, and the last entry about this one, by changes.
+pub fn entry_ahead(w: &mut VecWords, n: u32) -> Option<(Option<Spot>, u32)>
+    requires sample { IsSample w.old.words }
+    ensures same { w.new ≡ w.old }
+{
+    if n < length(w) {
+        let spot = entry_spot(w, n);
+        let next = next_entry(w, spot);
+        let last = last_about_by_changes(w, n);
+        Some((next, last))
     } else {
         None
     }

@@ -4,8 +4,8 @@
 //! with another one in between: `find`, `chunk`, `supervoxel`, `node`, `ended`, `children`, `leaves`,
 //! `first_node`, `next_node`, `last_node` and `last_version` of a node, a chunk or a supervoxel,
 //! `find_edge`, `last_edge`, `last_change`, `changed` and `next_change` of an edge or a change,
-//! `length`, `head`, `entry_spot`, `asked`, `first_change`, `all_changed`, `last_about`, `prefix_at`
-//! and `entry` of entries and times, and whole replies of `answer`; `parent_at`, `root_at`, `path_at`,
+//! `length`, `head`, `entry_spot`, `next_entry`, `asked`, `first_change`, `all_changed`, `last_about`,
+//! `last_about_by_changes`, `prefix_at` and `entry` of entries and times, and whole replies of `answer`; `parent_at`, `root_at`, `path_at`,
 //! `state_at` and `edges_of` at each prefix. What is wanted was worked out by a plain program that
 //! replays the log. The contracts promise the same of every log; these show the calls at work.
 //!

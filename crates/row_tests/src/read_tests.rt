@@ -6,7 +6,7 @@ use crate::calls::{
 use crate::checks::{
     are_lists, are_merge, change, has_edge_lists, has_parents, has_paths, has_states, has_times,
 };
-use crate::entry_calls::{entry_lists, entry_row, length_of};
+use crate::entry_calls::{entry_ahead, entry_lists, entry_row, length_of};
 use crate::names::*;
 use crate::samples::regained;
 use log_rows::{Head, TimeRefusal};
@@ -109,6 +109,8 @@ fn entries_are_told(rt: HostRuntime) -> Result<(), NoMemory> {
     };
     assert!(rt; length_of(&mut w) == 6);
     assert!(rt; entry_row(&mut w, 2) == Some((undo, Spot(44), Some(Spot(43)), 2)));
+    assert!(rt; entry_ahead(&mut w, 1) == Some((Some(Spot(44)), 5)));
+    assert!(rt; entry_ahead(&mut w, 5) == Some((None, 5)));
     let found = entry_lists(alloc, &mut w, 1)?;
     assert!(rt; are_merge(&found));
     assert!(rt;
