@@ -51,6 +51,20 @@ pub fn has_parents(w: &mut VecWords, place: u32, last: u32, wanted: &[u32]) -> b
     true
 }
 
+/// Whether the same is answered whatever record is kept as the hint of the node or supervoxel.
+pub fn has_parents_by_hints(w: &mut VecWords, place: u32, last: u32, wanted: &[u32]) -> bool
+    requires sample { IsSample w.old.words }
+    ensures same { w.new ≡ w.old }
+{
+    for hint in 0..80 {
+        w.set_hint(place as u64, hint);
+        if !has_parents(w, place, last, wanted) {
+            return false;
+        }
+    }
+    true
+}
+
 /// Whether a supervoxel has these nodes in layer 2, and these roots, at the prefixes from 1 on.
 pub fn has_paths(w: &mut VecWords, place: u32, wanted: &[(u64, u64)]) -> bool
     requires sample { IsSample w.old.words }

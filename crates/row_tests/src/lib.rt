@@ -7,7 +7,8 @@
 //! `length`, `head`, `entry_spot`, `next_entry`, `asked`, `first_change`, `all_changed`, `last_about`,
 //! `last_about_by_changes`, `prefix_at` and `entry` of entries and times, and whole replies of `answer`; `parent_at`, `root_at`, `path_at`,
 //! `state_at` and `edges_of` at each prefix. What is wanted was worked out by a plain program that
-//! replays the log. The contracts promise the same of every log; these show the calls at work.
+//! replays the log. The contracts promise the same of every log; these show the calls at work. Parents
+//! are asked for again with each record as the hint: a wrong hint changes no answer.
 //!
 //! The words of small logs stand in `specs/Samples`, written by hand from the table of records.
 //! `worked_words` shows that the definitions give them. A base that is read from its tables is built

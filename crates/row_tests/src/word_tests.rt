@@ -4,7 +4,7 @@
 ghost use Rattle.row_tests.specs.Worked.{WorkedCounts, WorkedTails, WorkedWords};
 
 use crate::samples::{held, same_words};
-use pcg_base::NoMemory;
+use pcg_base::{NoMemory, Words};
 use record_rows::{grid_of, layout_of};
 use row_words::{Draft, DraftLink, Spot, apply, fixed, kind_of, pointer};
 use std::prelude::HostRuntime;
@@ -92,5 +92,6 @@ fn drafts_are_applied(rt: HostRuntime) -> Result<(), NoMemory> {
     ];
     let mut wanted = held(rt.alloc(), &want, 0)?;
     assert!(rt; same_words(&mut w, &mut wanted));
+    assert_eq!(rt; (w.hint(0), w.hint(1), w.hint(2)), (0, 3, 0));
     Ok(())
 }
