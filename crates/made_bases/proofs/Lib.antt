@@ -1,0 +1,6 @@
+mod Turns
+mod Apart
+mod Ids
+mod Pairs
+mod Edges
+mod Answered
