@@ -1,6 +1,6 @@
 -- What a log's records tell of its next entry: they name earlier entries alone, and the last of them is an entry's own.
-use Rattle.std.proofs.Common.{◌≡◌, ℕ, zero, suc, ◌+◌, ◌*◌, ◌<◌, ◌≤◌, Bool, true, false, ◌||◌, List, [], ◌∷◌, ◌++◌, length, length-append, map, None, refl, sym, ◌∙◌, ap, subst, arith, append_assoc, append-nil}
-use Rattle.std.specs.List.{AllByRecursion, list_any}
+use Rattle.std.proofs.Common.{◌≡◌, ℕ, ◌+◌, ◌<◌, ◌≤◌, Bool, true, false, List, [], ◌∷◌, ◌++◌, length, length-append, map, refl, sym, ◌∙◌, ap, subst, arith, append_assoc, append-nil}
+use Rattle.std.specs.List.{AllByRecursion}
 use Rattle.std.proofs.lemmas.Bool.{ne_eqb, eq-eqb}
 use Rattle.op_model.specs.declared.base.Dataset.{Dataset}
 use Rattle.op_model.specs.declared.base.Base.{Base}
@@ -10,7 +10,6 @@ use Rattle.op_model.specs.declared.entry.Asked.{Asked}
 use Rattle.op_model.specs.declared.entry.Asked.TheVariants as asked
 use Rattle.op_model.specs.declared.entry.Entry.{Entry}
 use Rattle.op_model.specs.Legal.{Legal}
-use Rattle.op_model.specs.Valid.{IsBase, IsDataset}
 use Rattle.record_rows.specs.Rows.{Row, HeaderRow, SupervoxelRow, ChunkRow, NodeRow, LinkRow, EdgeRow, ChangeRow, ItemRow, EntryRow, Item}
 use Rattle.record_rows.specs.Chains.{entry_before}
 use Rattle.record_rows.specs.Words.{place_from}
@@ -21,10 +20,7 @@ use Rattle.record_rows.proofs.RowFacts.{all_base}
 use Rattle.row_append.proofs.FoundLemmas.{found_last}
 use Rattle.base_rows.proofs.Passing.{NonePass, none_both}
 use Rattle.grown_rows.specs.Aimed.{AreRetired, is_change_of, is_entry, is_item_of}
-use Rattle.entry_rows.specs.declared.lists.EntryLists.{EntryLists}
-use Rattle.entry_rows.specs.Listed.{IsListed}
-use Rattle.entry_rows.specs.LogLists.{AreLogLists, LogListsTell}
-use Rattle.entry_rows.specs.Retiring.{IsBefore}
+use Rattle.entry_rows.specs.LogLists.{LogListsTell}
 use Rattle.entry_rows.proofs.RetireLemmas.{headed_log, paths_are_retired}
 
 -- the change, item or entry is of an entry below this number

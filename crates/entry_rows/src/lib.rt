@@ -27,10 +27,7 @@ mod nodes;
 mod owners;
 mod putting;
 
-pub use changes::{EntryChange, put_changes};
+pub use changes::EntryChange;
 pub use drafting::draft_entry;
-pub use edges::put_edges;
-pub use items::{EntryItem, put_items};
-pub use links::put_links;
+pub use items::EntryItem;
 pub use lists::{EntryHead, EntryLists};
-pub use nodes::put_nodes;
