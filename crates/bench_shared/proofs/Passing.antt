@@ -1,5 +1,5 @@
 -- Passes that are started and that look.
-use Rattle.std.proofs.Common.{◌≡◌, ℕ, ◌*◌, List, [], length, refl, ◌∙◌, ap, subst, sym}
+use Rattle.std.proofs.Common.{◌≡◌, ℕ, List, [], length, refl, ◌∙◌, ap, subst, sym}
 use Rattle.std.specs.Prelude.{All, slice_index_or}
 use Rattle.std.proofs.lemmas.Option.{slice_get-get_or}
 use Rattle.op_model.specs.declared.base.Dataset.{Dataset}
