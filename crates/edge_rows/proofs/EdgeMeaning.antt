@@ -1,5 +1,5 @@
 -- What the records of a log tell of its edges at a prefix: the state of each pair, and the edges themselves.
-use Rattle.std.proofs.Common.{◌≡◌, ℕ, suc, ◌-◌, ◌<◌, ◌≤◌, ◌^◌, Bool, true, false, cond, not, ◌&&◌, ◌||◌, eqb, ltb, List, [], ◌∷◌, ◌++◌, length, map, Option, Some, None, refl, sym, ◌∙◌, ap, subst, inl, inr, ◌⊎◌, arith, append-nil, lt-ltb, ap₂}
+use Rattle.std.proofs.Common.{◌≡◌, ℕ, suc, ◌-◌, ◌<◌, ◌≤◌, ◌^◌, Bool, true, false, cond, not, ◌&&◌, ◌||◌, eqb, ltb, List, [], ◌∷◌, ◌++◌, length, map, Option, Some, None, refl, sym, ◌∙◌, ap, subst, inl, inr, ◌⊎◌, arith, append-nil, lt-ltb}
 use Rattle.std.specs.List.{AllByRecursion, slice_get, filter, filter_map, cons_option, last_or}
 use Rattle.std.proofs.lemmas.Bool.{cases_lt, le-ltb, or_parts}
 use Rattle.std.proofs.lemmas.List.{map-append}
@@ -313,8 +313,13 @@ module _ (d : Dataset) (b : Base) where
   pub edge_facts : (log : List Entry) → IsDataset d → IsBase d b → Legal d b log → (p made : ℕ) (e : Edge) → slice_get (rows_of d b log) p ≡ Some (EdgeRow made e) → EdgeFacts e
   edge_facts log dataset base legal p made e h = all_at OfEdges (rows_of d b log) (facts_all log dataset base legal) p (EdgeRow made e) h
 
+  -- the last state that the records give a pair below a prefix, or else its first one, is its state at the prefix
+  pub states_told : (q : Pair) (log : List Entry) (prefix : ℕ) → Legal d b log
+      → last_or (Some (is_active (edges d b []) q)) (filter_map (state_below q prefix) (rows_of d b log)) ≡ Some (is_active (edges d b (log_at d b log prefix)) q)
+  states_told q log prefix legal = ap (last_or (Some (is_active (edges d b []) q))) (states_picked q prefix log (numbered log legal)) ∙ last_state q (log_at d b log prefix)
+
   -- the last change of an edge below a prefix, or else its first state, is its state at the prefix
   pub state_told : (log : List Entry) (prefix : ℕ) → IsDataset d → IsBase d b → Legal d b log → (p made : ℕ) (e : Edge) → slice_get (rows_of d b log) p ≡ Some (EdgeRow made e)
       → last_or (Some e.active) (filter_map (state_below e.pair prefix) (rows_of d b log)) ≡ Some (is_active (edges d b (log_at d b log prefix)) e.pair)
   state_told log prefix dataset base legal p made e h =
-      ap₂ (λ x xs. last_or (Some x) xs) (sym (edge_facts log dataset base legal p made e h).0) (states_picked e.pair prefix log (numbered log legal)) ∙ last_state e.pair (log_at d b log prefix)
+      ap (λ x. last_or (Some x) (filter_map (state_below e.pair prefix) (rows_of d b log))) (sym (edge_facts log dataset base legal p made e h).0) ∙ states_told e.pair log prefix legal

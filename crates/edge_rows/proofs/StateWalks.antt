@@ -13,7 +13,8 @@ use Rattle.record_rows.specs.Readings.{first_place, next_place}
 use Rattle.record_rows.proofs.WalkLemmas.{LeadsTo, from_spot, first_leads, next_leads, gather_first, gather_step}
 use Rattle.edge_rows.proofs.EdgeMeaning.{state_below}
 
-no_change : (q : Pair) (prefix : ℕ) (row : Row) → change_of q row ≡ false → state_below q prefix row ≡ None
+-- what is no change of the pair gives it no state
+pub no_change : (q : Pair) (prefix : ℕ) (row : Row) → change_of q row ≡ false → state_below q prefix row ≡ None
 unfolding change_of state_below
 no_change q prefix (ChangeRow entry c) h = rw h refl
 no_change q prefix row h = refl
@@ -23,7 +24,8 @@ get_drop zero j rows = let e : 0 + j ≡ j = omega arith in ap (slice_get rows) 
 get_drop (suc p) j [] = refl
 get_drop (suc p) j (x ∷ rows) = let e : suc p + j ≡ suc (p + j) = omega arith in get_drop p j rows ∙ ap (slice_get (x ∷ rows)) (sym e)
 
-none_picked : {X : Type 0} (pick : Row → Option X) (rows : List Row) → ((j : ℕ) (row : Row) → slice_get rows j ≡ Some row → pick row ≡ None) → filter_map pick rows ≡ []
+-- nothing is picked where no record is
+pub none_picked : {X : Type 0} (pick : Row → Option X) (rows : List Row) → ((j : ℕ) (row : Row) → slice_get rows j ≡ Some row → pick row ≡ None) → filter_map pick rows ≡ []
 none_picked pick [] f = refl
 none_picked pick (x ∷ rows) f = let n : pick x ≡ None = f 0 x refl in rw n (none_picked pick rows (λ j row h. f (suc j) row h))
 

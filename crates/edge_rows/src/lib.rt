@@ -26,5 +26,6 @@ mod listing;
 mod states;
 
 pub use finding::{find_edge, last_change, last_edge};
+pub use inserting::{is_before, is_same};
 pub use listing::edges_of;
 pub use states::state_at;

@@ -3,8 +3,10 @@
 ghost use Rattle.std.specs.Prelude.{◌≤◌};
 
 use chunk_geometry::Grid;
+use made_bases::made_base;
 use made_input::{MadeInput, Wish, make_tables};
 use node_ids::Layout;
+use op_model::{Base, Dataset, Edge, Weight};
 use std::alloc::Global;
 use std::test::Fail;
 
@@ -119,5 +121,91 @@ fn twenty_thousand_supervoxels(rt: HostRuntime) -> Result<(), Fail> {
     for i in 0..sizes.len() {
         assert_eq!(rt; made.streams[i].len(), sizes[i]);
     }
+    Ok(())
+}
+
+/// The base that is made over such a grid. `None` if memory ran out.
+fn base(alloc: Global, grid: Grid, number: u64, size: u32) -> Option<Base>
+    requires { (1 ≤ size) × (size ≤ 1000000) }
+{
+    if grid.nx() > 256 || grid.ny() > 256 || grid.nz() > 256 {
+        return None;
+    }
+    let Ok(layout) = Layout::new(8) else {
+        return None;
+    };
+    let wish = Wish {
+        layout,
+        grid,
+        number,
+        size,
+        clients: 1,
+        requests: 0,
+    };
+    let dataset = Dataset {
+        layout,
+        grid,
+        merge_affinity: 1,
+        capacity: 2,
+    };
+    made_base(alloc, &wish, &dataset).ok()
+}
+
+/// Whether a base has these supervoxels.
+fn has_supervoxels(base: &Base, ids: &[u64]) -> bool {
+    if base.supervoxels.list.len() != ids.len() {
+        return false;
+    }
+    for i in 0..ids.len() {
+        if base.supervoxels.list[i].0 != ids[i] {
+            return false;
+        }
+    }
+    true
+}
+
+/// Whether an edge has these ends, this affinity and this state.
+fn is_edge(edge: &Edge, wanted: &(u64, u64, u32, bool)) -> bool {
+    edge.pair.a.0 == wanted.0
+        && edge.pair.b.0 == wanted.1
+        && edge.weight == Weight::Affinity(wanted.2)
+        && edge.active == wanted.3
+}
+
+/// Whether a base has these edges.
+fn has_edges(base: &Base, edges: &[(u64, u64, u32, bool)]) -> bool {
+    if base.edges.list.len() != edges.len() {
+        return false;
+    }
+    for i in 0..edges.len() {
+        if !is_edge(&base.edges.list[i], &edges[i]) {
+            return false;
+        }
+    }
+    true
+}
+
+/// The tables of `two_chunks`, read.
+#[test]
+fn the_base_of_two_chunks(rt: HostRuntime) -> Result<(), Fail> {
+    let Ok(grid) = Grid::new(2, 1, 1) else {
+        panic!(rt; "no grid");
+    };
+    let Some(base) = base(rt.alloc(), grid, 14, 4) else {
+        panic!(rt; "no memory");
+    };
+    let ids = [
+        72057594037927937,
+        72057594037927938,
+        72339069014638593,
+        72339069014638594,
+    ];
+    let edges = [
+        (72057594037927937, 72057594037927938, 10, true),
+        (72057594037927937, 72339069014638593, 91, false),
+        (72339069014638593, 72339069014638594, 45, true),
+    ];
+    assert!(rt; has_supervoxels(&base, ids.as_slice()));
+    assert!(rt; has_edges(&base, edges.as_slice()));
     Ok(())
 }

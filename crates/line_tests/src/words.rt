@@ -63,14 +63,18 @@ fn has_its_names(alloc: Global, job: &RehearseJob) -> Result<bool, NoMemory> {
 #[test]
 fn the_words_of_a_rehearsal(rt: HostRuntime) -> Result<(), Fail> {
     let usual = words(rt.alloc(), 99, "")?;
-    let Job::Rehearse(job) = read_words(rt.alloc(), usual.as_slice())?;
-    assert!(rt; numbers(&job) == [8, 2, 1, 1, 1, 2, 1000, 10]);
-    assert!(rt; has_its_names(rt.alloc(), &job)?);
-    Ok(())
+    match read_words(rt.alloc(), usual.as_slice())? {
+        Job::Rehearse(job) => {
+            assert!(rt; numbers(&job) == [8, 2, 1, 1, 1, 2, 1000, 10]);
+            assert!(rt; has_its_names(rt.alloc(), &job)?);
+            Ok(())
+        }
+        Job::Make(_) => panic!(rt; "no rehearsal"),
+    }
 }
 
 #[test]
-fn words_in_their_places(rt: HostRuntime) -> Result<(), Fail> {
+fn values_of_all_forms(rt: HostRuntime) -> Result<(), Fail> {
     for (place, word, is_fine) in [
         (0, "serve", false),
         (1, "--bit", false),
@@ -97,6 +101,88 @@ fn words_in_their_places(rt: HostRuntime) -> Result<(), Fail> {
             read_words(rt.alloc(), list.as_slice()).is_ok() == is_fine,
             "{word}"
         );
+    }
+    Ok(())
+}
+
+/// Whether the words of a text, which stand between spaces, are a job.
+fn is_job(alloc: Global, text: &str) -> Result<bool, AllocError> {
+    let mut list = Vec::new(alloc);
+    for word in text.split(' ') {
+        list.push(Vec::from_slice(alloc, word.as_bytes())?)?;
+    }
+    Ok(read_words(alloc, list.as_slice()).is_ok())
+}
+
+/// Options in any order and form, several stems, a schedule, and what two files may not share.
+#[test]
+fn words_in_any_order(rt: HostRuntime) -> Result<(), Fail> {
+    let cases = [
+        (
+            "rehearse s --bits=8 --grid 2,1,1 --supervoxels a t --edges=b --merge-affinity 1 --clock 1,1 -- u",
+            true,
+        ),
+        (
+            "rehearse --schedule c --bits 8 --grid 2,1,1 --supervoxels a --edges b --merge-affinity 1 --clock 1,1 s",
+            true,
+        ),
+        (
+            "rehearse --bits 8 --grid 2,1,1 --supervoxels a --edges b --merge-affinity 1 --clock 1,1 -- -s",
+            false,
+        ),
+        (
+            "rehearse --bits 8 --bits 8 --grid 2,1,1 --supervoxels a --edges b --merge-affinity 1 --clock 1,1 s",
+            false,
+        ),
+        (
+            "rehearse --bits 8 --grid 2,1,1 --supervoxels a --edges b --merge-affinity 1 --clock 1,1",
+            false,
+        ),
+        (
+            "rehearse --bits 8 --grid 2,1,1 --supervoxels a --edges b --merge-affinity 1 --clock 1,1 s s",
+            false,
+        ),
+        (
+            "rehearse --bits 8 --grid 2,1,1 --supervoxels a --edges s.ans --merge-affinity 1 --clock 1,1 s",
+            false,
+        ),
+        (
+            "rehearse --schedule a --bits 8 --grid 2,1,1 --supervoxels a --edges b --merge-affinity 1 --clock 1,1 s",
+            false,
+        ),
+        (
+            "--bits 8 --grid 2,1,1 --supervoxels a --edges b --merge-affinity 1 --clock 1,1 s",
+            false,
+        ),
+        (
+            "make s --from 1 --size 20000 --requests 50 --bits 8 --grid 8,8,8 --supervoxels a --edges b t",
+            true,
+        ),
+        (
+            "make --from 18446744073709551615 --size 255 --requests 0 --bits 16 --grid 1,1,1 --supervoxels a --edges b s",
+            true,
+        ),
+        (
+            "make --from 1 --size 256 --requests 0 --bits 16 --grid 1,1,1 --supervoxels a --edges b s",
+            false,
+        ),
+        (
+            "make --from 18446744073709551616 --size 1 --requests 0 --bits 16 --grid 1,1,1 --supervoxels a --edges b s",
+            false,
+        ),
+        (
+            "make --from 1 --size 1 --requests 0 --bits 16 --grid 1,1,1 --supervoxels a --edges s.ans s",
+            false,
+        ),
+        (
+            "make --from 1 --size 1 --requests 0 --bits 16 --grid 1,1,1 --supervoxels a --edges b --clock 1,1 s",
+            false,
+        ),
+        ("rehearse", false),
+        ("", false),
+    ];
+    for (text, is_fine) in cases {
+        assert!(rt; is_job(rt.alloc(), text)? == is_fine, "{text}");
     }
     Ok(())
 }

@@ -28,7 +28,7 @@ abbrev pub about : ℕ → Entry → Bool
 about op e = eqb e.number op || undoes e.asked op || redoes e.asked op
 
 -- the entry that is found passes the test, and stands in the log
-found_passes : (test : Entry → Bool) (log : List Entry) (f : Entry) → find test log ≡ Some f → (test f ≡ true) × (newer : List Entry) × (older : List Entry) × (log ≡ newer ++ f ∷ older)
+pub found_passes : (test : Entry → Bool) (log : List Entry) (f : Entry) → find test log ≡ Some f → (test f ≡ true) × (newer : List Entry) × (older : List Entry) × (log ≡ newer ++ f ∷ older)
 found_passes test [] f h = cc
 found_passes test (e ∷ log) f h = go (test e) refl h (found_passes test log f)
   where
@@ -128,7 +128,7 @@ module _ (d : Dataset) (b : Base) (bits : IsLayout d.layout) where
 
 module _ (d : Dataset) (b : Base) (log : List Entry) (legal : Legal d b log) where
   -- what is found first of a log is of the greatest number
-  first_greatest : (test : Entry → Bool) (l : List Entry) (y f : Entry) → Legal d b l → find test l ≡ Some y → entry_at l f.number ≡ Some f → test f ≡ true → f.number ≤ y.number
+  pub first_greatest : (test : Entry → Bool) (l : List Entry) (y f : Entry) → Legal d b l → find test l ≡ Some y → entry_at l f.number ≡ Some f → test f ≡ true → f.number ≤ y.number
   unfolding entry_at
   first_greatest test [] y f lg h k t = absurd lg
   first_greatest test (e ∷ []) y f lg h k t = go (test e) h (eqb e.number f.number) k

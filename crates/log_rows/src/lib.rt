@@ -35,7 +35,9 @@ mod times;
 mod turning;
 
 pub use asking::{asked, asked_at};
-pub use changing::{all_changed, all_changed_at, changed, first_change, next_change};
+pub use changing::{
+    all_changed, all_changed_at, changed, changer, first_change, later_change, next_change,
+};
 pub use heads::{entry_spot, head, last_about, length, next_entry};
 pub use records::{Head, head_at, number};
 pub use times::{TimeRefusal, prefix_at};

@@ -9,7 +9,7 @@ use crate::heads::entry_spot;
 use crate::records::{count, newest, number, time};
 use crate::seeking::next_own;
 use pcg_base::Words;
-use row_words::Spot;
+use row_words::{Spot, probe};
 
 /// Why no entries are told for a time.
 #[derive(Clone, Copy, PartialEq, Eq, Debug, Drop)]
@@ -32,11 +32,12 @@ pub fn prefix_at<W: Words>(w: &mut W, t: u64) -> Result<u32, TimeRefusal>
     if latest < t {
         return Err(TimeRefusal::Unpublished { latest });
     }
-    count_to(w, t)
+    count_to(w, t, latest)
 }
 
-/// How many entries have a timestamp of at most `t`, in milliseconds.
-fn count_to<W: Words>(w: &mut W, t: u64) -> Result<u32, TimeRefusal>
+/// How many entries have a timestamp of at most `t`, in milliseconds. `latest` says where the search
+/// begins: about the newest timestamp.
+fn count_to<W: Words>(w: &mut W, t: u64, latest: u64) -> Result<u32, TimeRefusal>
     requires image { HasLog ParentImage (W.words w.old) }
     ensures same { w.new ≡ w.old }
     ensures is { ForEachLog ParentImage (W.words w.old) (λ d b log. result ≡ count_to log t) }
@@ -50,14 +51,21 @@ fn count_to<W: Words>(w: &mut W, t: u64) -> Result<u32, TimeRefusal>
     let mut low = start.0;
     let mut high = count;
     let mut found = 0;
+    let mut below = first;
+    let mut above = latest;
+    let mut before = u32::MAX;
     while low < high {
-        let middle = low + (high - low) / 2;
+        let middle = probe(low, high, below, above, t, before);
+        before = high - low;
         let own = next_own(w, middle, count);
-        if time(w, Spot(own)) <= t {
+        let here = time(w, Spot(own));
+        if here <= t {
             low = own + 1;
+            below = here;
             found = number(w, Spot(own));
         } else {
             high = middle;
+            above = here;
         }
     }
     Ok(found + 1)

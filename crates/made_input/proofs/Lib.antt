@@ -2,4 +2,4 @@ pub mod Records
 mod Steps
 pub mod Places
 pub mod Plain
-mod Lines
+pub mod Lines

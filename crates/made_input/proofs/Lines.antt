@@ -19,15 +19,13 @@ pub first_line : (w : Wish) (before text : Text) → before ≡ [] → text ≡ 
 unfolding table_text numbers_below more_fields
 first_line w before text none e = e ∙ ap (λ t. t ++ codes "supervoxel\n") none
 
-pub next_line : (w : Wish) (k : ℕ) (before one two : Text) → before ≡ table_text (rows_below w k) → one ≡ before ++ id_text w k → two ≡ one ++ codes "\n" → two ≡ table_text (rows_below w (k + 1))
-unfolding numbers_below more_fields
-next_line w k before one two a b c =
-    let row : Text → List Text = λ t. t ∷ [] in
+pub next_line : (w : Wish) (k : ℕ) → table_text (rows_below w (k + 1)) ≡ table_text (rows_below w k) ++ record_text (id_text w k ∷ [])
+unfolding numbers_below
+next_line w k =
     let next : k + 1 ≡ suc k = omega arith in
-    c ∙ ap (λ t. t ++ codes "\n") (b ∙ ap (λ t. t ++ id_text w k) a) ∙ append_assoc (table_text (rows_below w k)) (id_text w k) (codes "\n")
-    ∙ sym (ap (λ n. table_text (rows_below w n)) next
+    ap (λ n. table_text (rows_below w n)) next
     ∙ ap (λ rows. table_text ((codes "supervoxel" ∷ []) ∷ rows)) (map-append (λ k. id_text w k ∷ []) (numbers_below k) (k ∷ []))
-    ∙ table_text-append (rows_below w k) (id_text w k ∷ []))
+    ∙ table_text-append (rows_below w k) (id_text w k ∷ [])
 
 pub all_lines : (w : Wish) → table_text (supervoxel_rows w) ≡ table_text (rows_below w w.size)
 unfolding supervoxel_rows
@@ -42,12 +40,10 @@ pub first_edge : (w : Wish) (edges : List MadeEdge) (before text : Text) → bef
 unfolding table_text more_fields
 first_edge w edges before text none e = e ∙ ap (λ t. t ++ codes "a,b,affinity,active\n") none
 
-pub next_edge : (w : Wish) (edges : List MadeEdge) (i : ℕ) (d : MadeEdge) (before after : Text) → i < length edges → before ≡ table_text (edges_upto w edges i) → after ≡ before ++ record_text (edge_fields w (get_or edges i d))
-    → after ≡ table_text (edges_upto w edges (i + 1))
-next_edge w edges i d before after lt a b =
-    b ∙ ap (λ t. t ++ record_text (edge_fields w (get_or edges i d))) a
-    ∙ sym (table_text-append (edges_upto w edges i) (edge_fields w (get_or edges i d)))
-    ∙ sym (ap (λ rows. table_text (edge_header ∷ rows)) (ap (map (edge_fields w)) (take_more edges i d lt) ∙ map-append (edge_fields w) (take i edges) (get_or edges i d ∷ [])))
+pub next_edge : (w : Wish) (edges : List MadeEdge) (i : ℕ) (d : MadeEdge) → i < length edges → table_text (edges_upto w edges (i + 1)) ≡ table_text (edges_upto w edges i) ++ record_text (edge_fields w (get_or edges i d))
+next_edge w edges i d lt =
+    ap (λ rows. table_text (edge_header ∷ rows)) (ap (map (edge_fields w)) (take_more edges i d lt) ∙ map-append (edge_fields w) (take i edges) (get_or edges i d ∷ []))
+    ∙ table_text-append (edges_upto w edges i) (edge_fields w (get_or edges i d))
 
 -- ---- pieces
 

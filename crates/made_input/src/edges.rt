@@ -127,7 +127,7 @@ fn with_outer(wish: &Wish, k: u32, edges: &mut Vec<MadeEdge>, state: u64) -> Res
 
 /// The edges between all supervoxels, and the state behind them.
 #[derive(Drop)]
-pub(crate) struct MadeEdges {
+pub struct MadeEdges {
     /// The edges, in order.
     pub list: Vec<MadeEdge>,
     /// The state behind them.
@@ -135,7 +135,7 @@ pub(crate) struct MadeEdges {
 }
 
 /// The edges between all supervoxels, and the state behind them.
-pub(crate) fn make_edges(alloc: Global, wish: &Wish) -> Result<MadeEdges, NoMemory>
+pub fn make_edges(alloc: Global, wish: &Wish) -> Result<MadeEdges, NoMemory>
     requires { IsWish wish.now }
     ensures edges { IfOk result (λ made. edges_below wish.now wish.now.size ≡ (made.list.items, made.state)) }
     ensures few { IfOk result (λ made. length made.list.items ≤ 2000000) }

@@ -4,6 +4,9 @@
 //! wish, or answers that it is out of memory. Read as CSV, each table has the records that it was
 //! made of, and no others ([`laws::tables_have_rows`]).
 //!
+//! What is made can also be had in pieces: the edges by [`make_edges`], and each record and line by
+//! [`put_supervoxel`], [`put_edge`] and [`put_line`].
+//!
 //! - `wish`: what is wished for;
 //! - `draws`: numbers drawn from a state;
 //! - `edges`: supervoxels and edges;
@@ -19,6 +22,7 @@ mod streams;
 mod texts;
 mod wish;
 
-pub use edges::MadeEdge;
-pub use streams::{MadeInput, make_tables};
+pub use edges::{MadeEdge, MadeEdges, make_edges};
+pub use streams::{MadeInput, make_tables, put_line};
+pub use texts::{put_edge, put_supervoxel};
 pub use wish::Wish;

@@ -15,7 +15,7 @@ use std::alloc::Global;
 
 /// Puts line j of a stream behind a text. Answers the state behind it.
 #[tactic(auto, unfolding(crate::specs::Texts::line_of))]
-fn put_line(wish: &Wish, j: u32, state: u64, text: &mut Vec<u8>) -> Result<u64, NoMemory>
+pub fn put_line(wish: &Wish, j: u32, state: u64, text: &mut Vec<u8>) -> Result<u64, NoMemory>
     requires fits { IsWish wish.now }
     requires few { j ≤ 100000 }
     ensures text { IfOk result (λ s. text.new.items ≡ text.old.items ++ (line_of wish.now j state).0) }

@@ -1,6 +1,6 @@
 //! Tables and requests as texts.
 
-ghost use Rattle.std.specs.Prelude.{◌≡◌, ◌≤◌, ◌<◌, ◌++◌, ◌∷◌, map, IfOk, OnOk, decimal};
+ghost use Rattle.std.specs.Prelude.{◌≡◌, ◌≤◌, ◌<◌, ◌++◌, ◌∷◌, [], map, IfOk, OnOk, decimal};
 ghost use Rattle.std.specs.List.{All};
 ghost use Rattle.made_input.specs.Edges.{IsMade, IsWish, supervoxel};
 ghost use Rattle.made_input.specs.Rows.{record_text, table_text};
@@ -38,9 +38,21 @@ fn put_id(wish: &Wish, k: u32, text: &mut Vec<u8>) -> Result<(), NoMemory>
     put_number(text, supervoxel(wish, k).0)
 }
 
+/// Puts the record of the supervoxel with a number behind a text.
+#[tactic(auto, unfolding(crate::specs::Rows::more_fields))]
+pub fn put_supervoxel(wish: &Wish, k: u32, text: &mut Vec<u8>) -> Result<(), NoMemory>
+    requires fits { IsWish wish.now }
+    requires there { k < wish.now.size }
+    ensures { OnOk result (text.new.items ≡ text.old.items ++ record_text (id_text wish.now k ∷ [])) }
+{
+    put_id(wish, k, text)?;
+    put(text, b"\n")?;
+    Ok(())
+}
+
 /// Puts the record of an edge behind a text.
 #[tactic(auto, unfolding(crate::specs::Texts::edge_fields, crate::specs::Rows::more_fields))]
-fn put_edge(wish: &Wish, edge: &MadeEdge, text: &mut Vec<u8>) -> Result<(), NoMemory>
+pub fn put_edge(wish: &Wish, edge: &MadeEdge, text: &mut Vec<u8>) -> Result<(), NoMemory>
     requires fits { IsWish wish.now }
     requires a { edge.now.a < wish.now.size }
     requires b { edge.now.b < wish.now.size }
@@ -63,8 +75,7 @@ pub(crate) fn supervoxel_table(alloc: Global, wish: &Wish) -> Result<Vec<u8>, No
     let mut text = Vec::new(alloc);
     put(&mut text, b"supervoxel\n")?;
     for k in 0..wish.size {
-        put_id(wish, k, &mut text)?;
-        put(&mut text, b"\n")?;
+        put_supervoxel(wish, k, &mut text)?;
     }
     Ok(text)
 }

@@ -17,6 +17,7 @@
 //! - `chunk_nodes`: the nodes of a chunk
 //! - `near`: where a walk along a chunk's nodes may start
 //! - `runs`: steps over the nodes that one entry made in one chunk
+//! - `skips`: where a walk along a child's links may start
 //! - `versions`: the parents of a supervoxel or a node, entry by entry
 #![tactic(auto)]
 
@@ -25,6 +26,7 @@ mod finding;
 mod near;
 mod nodes;
 mod runs;
+mod skips;
 mod versions;
 
 pub use chunk_nodes::{first_node, last_node, next_node};

@@ -1,7 +1,8 @@
-//! Where a walk along a chunk's nodes may start. The nodes of the top chunk are the roots, of which
-//! each entry makes some, as its last nodes, with greater numbers than before: so halving over the
-//! records finds the entry. What it finds is tested by the words, and no contract tells how near it
-//! is: a worse start costs time and nothing else.
+//! Where a walk along a chunk's nodes may start. The nodes of a base follow one another in each chunk,
+//! so an id tells how far its node stands behind the chunk's first one. The nodes of the top chunk
+//! are the roots, of which each entry makes some, as its last nodes, with greater numbers than before:
+//! so probes over the records find the entry. What they find is tested by the words, and no contract
+//! tells how near it is: a worse start costs time and nothing else.
 
 ghost use Rattle.std.specs.Prelude.{◌≡◌, ℕ, ◌≤◌, List, IfSome};
 ghost use Rattle.op_model.specs.declared.base.Dataset.{Dataset};
@@ -15,16 +16,17 @@ ghost use Rattle.parent_rows.specs.Steps.{IsNear};
 use crate::chunk_nodes::first_node;
 use crate::runs::{is_of, layout};
 use pcg_base::Words;
-use row_words::{Spot, id_of};
+use row_words::{Spot, id_of, probe};
 
 /// Where the walk along a chunk's nodes to this id may start: at one of them whose id is at most
-/// this one, or at the first. In the top chunk it is the last root that an entry made.
+/// this one, or at the first. It is the node itself if the base made it. In the top chunk it is
+/// else the last root that an entry made.
 pub fn near_node<W: Words>(w: &mut W, chunk: Spot, id: u64) -> Option<Spot>
     requires chunk { (d : Dataset) × (b : Base) × (log : List Entry) × (c : ℕ) × ParentImage d b log (W.words w.old) × HoldsChunk d b log chunk c }
     ensures same { w.new ≡ w.old }
     ensures is { (d : Dataset) (b : Base) (log : List Entry) (c : ℕ) → ParentImage d b log (W.words w.old) → HoldsChunk d b log chunk c → IsNear (rows_of d b log) c id result }
 {
-    let place = root_place(w, chunk, id);
+    let place = near_place(w, chunk.0 as u64, id);
     let Some(node) = tested(w, place, chunk, id) else {
         return first_node(w, chunk);
     };
@@ -50,34 +52,75 @@ fn tested<W: Words>(w: &mut W, place: u64, chunk: Spot, id: u64) -> Option<Spot>
     }
 }
 
-// of the top chunk the place of the last root that an entry behind the first one made, of the newest
-// entry whose last root is at most this one; 0 where there is none, and for other chunks. The last
-// record is the newest entry's own, which word 3 numbers
-fn root_place<W: Words>(w: &mut W, chunk: Spot, id: u64) -> u64
+// where the node of this id would stand if it is the base's and that is so; else a root's place
+fn near_place<W: Words>(w: &mut W, chunk: u64, id: u64) -> u64
     ensures same { w.new ≡ w.old }
 {
-    if chunk.0 as u64 != last_chunk(w) {
+    let first = word_or(w, chunk, 4);
+    let start = word_or(w, first, 1);
+    let place = first.saturating_add(id.saturating_sub(start));
+    if word_or(w, place, 0) % 256 == 4 && word_or(w, place, 1) == id {
+        return place;
+    }
+    if chunk == last_chunk(w) {
+        root_place(w, chunk, id)
+    } else {
+        0
+    }
+}
+
+// the place of the last root that an entry behind the first one made, of the newest entry whose last
+// root is at most this one; 0 where there is none. The last record is the newest entry's own, which
+// word 3 numbers
+fn root_place<W: Words>(w: &mut W, chunk: u64, id: u64) -> u64
+    ensures same { w.new ≡ w.old }
+{
+    let count = (w.len() / 8).min(4294967295);
+    let newest = count.saturating_sub(1);
+    if word_or(w, newest, 3) == 0 {
         return 0;
     }
-    let mut high = w.len() / 8;
-    if word_or(w, high.saturating_sub(1), 3) == 0 {
-        return 0;
+    let root = last_root(w, newest);
+    let above = word_or(w, root, 1);
+    if above <= id {
+        return root;
     }
+    let first = word_or(w, chunk, 4).min(count);
+    let below = word_or(w, first, 1);
+    last_root_to(w, id, first as u32, count as u32, below, above)
+}
+
+// the place of the last root of the newest entry that names a record in a part of the records and
+// whose last root is at most this one; 0 where there is none. The roots rise from one to another id
+fn last_root_to<W: Words>(w: &mut W, id: u64, first: u32, count: u32, start: u64, end: u64) -> u64
+    ensures same { w.new ≡ w.old }
+{
     let mut found = 0;
-    let mut low = word_or(w, chunk.0 as u64, 4);
+    let mut low = first;
+    let mut high = count;
+    let mut below = start;
+    let mut above = end;
+    let mut before = u32::MAX;
     while low < high {
-        let middle = low + (high - low) / 2;
+        let middle = probe(low, high, below, above, id, before);
+        before = high - low;
         let mark = next_mark(w, middle, high);
         if mark >= high {
             high = middle;
-        } else if word_or(w, mark, 3) == 0 {
+        } else if word_or(w, mark as u64, 3) == 0 {
             low = mark + 1;
         } else {
-            let root = last_root(w, mark);
-            if word_or(w, root, 1) <= id {
+            let root = last_root(w, mark as u64);
+            let here = word_or(w, root, 1);
+            if here == id {
+                return root;
+            }
+            if here < id {
                 found = root;
+                below = here;
                 low = mark + 1;
             } else {
+                above = here;
                 high = middle;
             }
         }
@@ -86,22 +129,25 @@ fn root_place<W: Words>(w: &mut W, chunk: Spot, id: u64) -> u64
 }
 
 // the place of the last root made by the entry that the record names, which is a node's, a link's or
-// an entry's own
+// an entry's own. Its nodes and then its links stand in a row, and the last link leads to that root
 fn last_root<W: Words>(w: &mut W, mark: u64) -> u64
     ensures same { w.new ≡ w.old }
 {
-    let own = own_behind(w, mark);
-    let link = link_before(w, own);
+    let link = if word_or(w, mark, 0) % 256 == 9 {
+        link_before(w, mark)
+    } else {
+        last_in_row(w, mark)
+    };
     word_or(w, link, 4)
 }
 
 // the first record from a place on and before the end that is a node's, a link's or an entry's own
-fn next_mark<W: Words>(w: &mut W, from: u64, end: u64) -> u64
+fn next_mark<W: Words>(w: &mut W, from: u32, end: u32) -> u32
     ensures same { w.new ≡ w.old }
     ensures behind { from ≤ result }
 {
     let mut at = from;
-    while at < end && !is_mark(word_or(w, at, 0)) {
+    while at < end && !is_mark(word_or(w, at as u64, 0)) {
         at += 1;
     }
     at
@@ -113,16 +159,22 @@ fn is_mark(word: u64) -> bool {
     kind == 4 || kind == 5 || kind == 9
 }
 
-// the first record from a place on that is an entry's own
-fn own_behind<W: Words>(w: &mut W, from: u64) -> u64
+// the last of the nodes and links that stand in a row from a place on
+fn last_in_row<W: Words>(w: &mut W, from: u64) -> u64
     ensures same { w.new ≡ w.old }
 {
     let end = w.len() / 8;
     let mut at = from;
-    while at < end && word_or(w, at, 0) % 256 != 9 {
+    while at < end && is_made(word_or(w, at + 1, 0)) {
         at += 1;
     }
     at
+}
+
+// whether a record with this first word is a node's or a link's
+fn is_made(word: u64) -> bool {
+    let kind = word % 256;
+    kind == 4 || kind == 5
 }
 
 // the last record up to a place that is a link's
@@ -144,8 +196,8 @@ fn last_chunk<W: Words>(w: &mut W) -> u64
     counts % 4294967296 + counts / 4294967296
 }
 
-// a word of a record, and 0 where there is none
-fn word_or<W: Words>(w: &mut W, place: u64, k: u64) -> u64
+/// A word of a record, and 0 where there is none.
+pub fn word_or<W: Words>(w: &mut W, place: u64, k: u64) -> u64
     ensures same { w.new ≡ w.old }
 {
     if place < w.len() / 8 && k < 8 {

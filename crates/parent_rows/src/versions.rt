@@ -11,6 +11,7 @@ ghost use Rattle.record_rows.specs.Readings.{ParentImage, Holds, HoldsId, first_
 ghost use Rattle.record_rows.specs.Versions.{parent_place};
 ghost use Rattle.parent_rows.specs.Steps.{IsLinkOf, MayStart, is_version};
 
+use crate::skips::near_link;
 use pcg_base::Words;
 use row_words::{Spot, fixed, id_of, kind_of, pointer};
 
@@ -55,29 +56,26 @@ fn newest_below<W: Words>(w: &mut W, spot: Spot, below: u64) -> Option<Spot>
     found
 }
 
-// where the walk to the newest link below this entry may start: at the hint that is kept for the
-// record, if that is one of its links below the entry, else at its first link
+// where the walk to the newest link below this entry may start: at the place that the hints lead to,
+// if that is one of its links below the entry, else at its first link
 fn start<W: Words>(w: &mut W, spot: Spot, below: u64) -> Option<Spot>
     requires owner { (d : Dataset) × (b : Base) × (log : List Entry) × (id : ℕ) × ParentImage d b log (W.words w.old) × HoldsId d b log spot id }
     ensures same { w.new ≡ w.old }
     ensures is { (d : Dataset) (b : Base) (log : List Entry) (id : ℕ) → ParentImage d b log (W.words w.old) → HoldsId d b log spot id → MayStart (version_of id) (is_version id below) (rows_of d b log) result }
 {
-    let Some(link) = hinted(w, spot, below) else {
+    let place = near_link(w, spot.0 as u64, below);
+    let Some(link) = tested(w, spot, place, below) else {
         return first_version(w, spot);
     };
     Some(link)
 }
 
-// the hint that is kept for the record at a place, if it is one of its links below this entry
-fn hinted<W: Words>(w: &mut W, spot: Spot, below: u64) -> Option<Spot>
+// the record at a place, if it is that of a link below this entry of the supervoxel or node
+fn tested<W: Words>(w: &mut W, spot: Spot, place: u64, below: u64) -> Option<Spot>
     requires owner { (d : Dataset) × (b : Base) × (log : List Entry) × (id : ℕ) × ParentImage d b log (W.words w.old) × HoldsId d b log spot id }
     ensures same { w.new ≡ w.old }
     ensures is { (d : Dataset) (b : Base) (log : List Entry) (id : ℕ) → ParentImage d b log (W.words w.old) → HoldsId d b log spot id → IfSome result (λ p. (row : Row) × Holds d b log p row × (is_version id below row ≡ true)) }
 {
-    let place = w.hint(spot.0 as u64);
-    if place == 0 {
-        return None;
-    }
     if place >= w.len() / 8 {
         return None;
     }

@@ -2,14 +2,19 @@
 //!
 //! What it prints and which status it ends with is decided by `pcg_serve`, whose contract says so
 //! of any place, clock, gate and sink. This crate hands it those of the system, which stand in
-//! `system_devices`.
+//! `system_devices`. If the words are no job it also tells on standard error what is wrong with them, as
+//! far as that can be named, and how the program is used (`usage_texts`).
 #![tactic(auto)]
 
 use pcg_base::{OpenGate, write_all};
 use std::process::ExitCode;
 use system_devices::{Folder, Outgoing, SystemClock, words};
+use usage_texts::write_usage;
 
-/// The status where memory was refused.
+/// The status if the words are no job.
+const BAD_WORDS: u8 = 1;
+
+/// The status if memory was refused.
 const NO_MEMORY: u8 = 5;
 
 fn main(rt: HostRuntime) -> ExitCode {
@@ -22,5 +27,9 @@ fn main(rt: HostRuntime) -> ExitCode {
     let mut place = Folder::new(&rt, alloc);
     let clock = SystemClock::new(&rt);
     let status = pcg_serve::run(alloc, &words, &mut place, &clock, &OpenGate, &mut out);
+    if status == BAD_WORDS {
+        let mut told = Outgoing::new(rt.stderr());
+        let _ = write_usage(&words, &mut told);
+    }
     ExitCode::from(status)
 }

@@ -9,6 +9,7 @@ use Rattle.op_model.specs.declared.base.Base.{Base}
 use Rattle.op_model.specs.declared.entry.Entry.{Entry}
 use Rattle.pcg_base.specs.Causes.{Rose}
 use Rattle.pcg_base.specs.Told.{Files, IsLongerAt}
+use Rattle.pcg_words.specs.declared.job.MakeJob.{MakeJob}
 use Rattle.pcg_words.specs.declared.job.RehearseJob.{RehearseJob}
 use Rattle.pcg_words.specs.declared.job.Job.{Job}
 use Rattle.pcg_words.specs.declared.job.Job.TheVariants as jobs
@@ -26,6 +27,7 @@ use Rattle.pcg_serve.specs.declared.stops.Stop.TheVariants as stops
 use Rattle.pcg_serve.specs.Statuses.{status_of}
 use Rattle.pcg_serve.specs.Jobs.{HasBase, HasTable, TablesAre, dataset_of, table_limit}
 use Rattle.pcg_serve.specs.Causes.{HasFault, HasLong, HasBuiltBase, HasFullBase, HasLongTable, IsDue, IsFullSo, IsUnbuilt, Seen, StatusSo, StopCause, StopsOnly, TablesStop, has_one_client}
+use Rattle.pcg_serve.specs.Making.{MakeOutcome}
 use Rattle.pcg_serve.specs.Headline.{CamePast, IsQuiet, JobOutcome, OnlyClientEnds, Outcome, fault_of, fault_status}
 
 -- the status is the one that is asked for, or that of a fault or of want of memory
@@ -194,6 +196,13 @@ due_stopped (Some m) files' left job old new stop status why e s d =
 pub job_outcome : (files files' : Option Files) (left : List ℕ → List ℕ) (j : Job) (found : RehearseJob) (old new : Seen) (held held' : Option (List ℕ)) (outs outs' status : ℕ)
     → j ≡ jobs.Rehearse found → Outcome files files' left found old new held held' outs outs' status → JobOutcome files files' left (Some j) old new held held' outs outs' status
 job_outcome files files' left j found old new held held' outs outs' status e o =
+    let P : Job → Type 0 = λ x. JobOutcome files files' left (Some x) old new held held' outs outs' status in
+    subst P (sym e) (inl o)
+
+pub made_outcome : (files files' : Option Files) (left : List ℕ → List ℕ) (j : Job) (found : MakeJob) (old new : Seen) (held held' : Option (List ℕ)) (outs outs' status : ℕ) → j ≡ jobs.Make found
+    → MakeOutcome found (record { files = files; writes = old.writes; counts = old.counts }) (record { files = files'; writes = new.writes; counts = new.counts }) held held' outs outs' status
+    → JobOutcome files files' left (Some j) old new held held' outs outs' status
+made_outcome files files' left j found old new held held' outs outs' status e o =
     let P : Job → Type 0 = λ x. JobOutcome files files' left (Some x) old new held held' outs outs' status in
     subst P (sym e) (inl o)
 

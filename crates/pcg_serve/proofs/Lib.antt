@@ -13,3 +13,5 @@ pub mod Finishing
 pub mod Past
 pub mod Others
 pub mod Later
+pub mod Jobbing
+pub mod Made

@@ -7,7 +7,7 @@ use Rattle.std.proofs.lemmas.Slice.Eq.{bytes_eq-Decides}
 use Rattle.op_model.specs.declared.base.Base.{Base}
 use Rattle.pcg_base.specs.Told.{Files, KeepsFiles, IsLongerAt}
 use Rattle.pcg_words.specs.declared.job.RehearseJob.{RehearseJob}
-use Rattle.pcg_words.specs.Job.{IsJob, all_differ, client_files, job_files, request_file}
+use Rattle.pcg_words.specs.Job.{IsRehearse, all_differ, client_files, file_names, request_file}
 use Rattle.table_ingest.specs.Bases.{Spells}
 use Rattle.pcg_serve.specs.declared.stops.FileName.TheVariants as files
 use Rattle.pcg_serve.specs.declared.stops.Stop.{Stop}
@@ -58,8 +58,8 @@ first_differs true y z h = absurd (cc)
 first_differs false y z h = refl
 
 -- the tables have two names
-tables_differ : (job : RehearseJob) → IsJob job → job.supervoxels ≢ job.edges
-unfolding all_differ job_files
+tables_differ : (job : RehearseJob) → IsRehearse job → job.supervoxels ≢ job.edges
+unfolding all_differ file_names
 tables_differ job ok same = absurd (false≢true (sym (first_differs (bytes_eq job.supervoxels job.edges) _ _ ok.names) ∙ (bytes_eq-Decides job.supervoxels job.edges).1 same))
 
 -- a table that was read is still so behind the reading of another one
@@ -75,7 +75,7 @@ kept_read (Some m) new left name k w =
     subst P k w
 
 -- both tables were read
-pub both_read : (m m1 : Option Files) (before after : List ℕ → List ℕ) (job : RehearseJob) → IsJob job → KeepsFiles m m1 → WasRead m before job.supervoxels → ((n : List ℕ) → n ≢ job.edges → after n ≡ before n)
+pub both_read : (m m1 : Option Files) (before after : List ℕ → List ℕ) (job : RehearseJob) → IsRehearse job → KeepsFiles m m1 → WasRead m before job.supervoxels → ((n : List ℕ) → n ≢ job.edges → after n ≡ before n)
     → WasRead m1 after job.edges → TablesRead m after job
 both_read m m1 before after job ok k w same v =
     (still m before after job.supervoxels job.edges (tables_differ job ok) same w, kept_read m m1 after job.edges k v)
@@ -103,7 +103,7 @@ third_so old new left job s e a c (Ok i) k hs he r m = tt
 third_so old new left job s e a c (Err stop) k hs he r m = third_stop old new left job s e a c stop k hs he r m
 
 -- the supervoxels were read, and the edges weren't
-pub second_stop : (m m1 : Option Files) (before after : List ℕ → List ℕ) (job : RehearseJob) (a b c : Seen) (stop : Stop) → IsJob job → KeepsFiles m m1 → IsLater a b
+pub second_stop : (m m1 : Option Files) (before after : List ℕ → List ℕ) (job : RehearseJob) (a b c : Seen) (stop : Stop) → IsRehearse job → KeepsFiles m m1 → IsLater a b
     → WasRead m before job.supervoxels → ((n : List ℕ) → n ≢ job.edges → after n ≡ before n) → TableStop m1 job.edges files.Edges b c stop → TablesStop m after job a c stop
 second_stop m m1 before after job a b c stop ok k later w same (inl h) =
     let P : Stop → Type 0 = λ s. TablesStop m after job a c s in
@@ -142,14 +142,14 @@ client_differs supervoxels edges stem None h =
 client_differs supervoxels edges stem (Some name) h =
     (apart supervoxels (request_file stem) (third_differs (bytes_eq supervoxels edges) _ _ _ _ h), apart edges (request_file stem) (second_differs _ _ _ _ (rest_differ _ _ h)))
 
-names_differ : (job : RehearseJob) (stem : List ℕ) → IsJob job → job.stems ≡ stem ∷ [] → (job.supervoxels ≢ request_file stem) × (job.edges ≢ request_file stem)
-unfolding job_files
+names_differ : (job : RehearseJob) (stem : List ℕ) → IsRehearse job → job.stems ≡ stem ∷ [] → (job.supervoxels ≢ request_file stem) × (job.edges ≢ request_file stem)
+unfolding file_names
 names_differ job stem ok one =
     let P : List (List ℕ) → Type 0 = λ stems. IsTrue (all_differ (job.supervoxels ∷ job.edges ∷ (option_to_list job.schedule ++ client_files stems))) in
     client_differs job.supervoxels job.edges stem job.schedule (subst P one ok.names)
 
 -- the tables are still read behind the client's session
-pub read_still : (m : Option Files) (before after : List ℕ → List ℕ) (job : RehearseJob) (stem : List ℕ) → IsJob job → job.stems ≡ stem ∷ [] → ((n : List ℕ) → n ≢ request_file stem → after n ≡ before n)
+pub read_still : (m : Option Files) (before after : List ℕ → List ℕ) (job : RehearseJob) (stem : List ℕ) → IsRehearse job → job.stems ≡ stem ∷ [] → ((n : List ℕ) → n ≢ request_file stem → after n ≡ before n)
     → TablesRead m before job → TablesRead m after job
 read_still m before after job stem ok one same r =
     let away = names_differ job stem ok one in

@@ -186,23 +186,28 @@ IsDue (Some m) job status =
 abbrev pub IsDueJob : Option Files → Option Job → ℕ → Type 0
 IsDueJob m None status = ⊥
 IsDueJob m (Some (job.Rehearse found)) status = IsDue m found status
+IsDueJob m (Some (job.Make found)) status = ⊥
 
 -- the words spell a job that has a table with such a record
 abbrev pub HasBadTableJob : Option Files → Option Job → Type 0
 HasBadTableJob m None = ⊥
 HasBadTableJob m (Some (job.Rehearse found)) = HasBadTable m found
+HasBadTableJob m (Some (job.Make found)) = ⊥
 
 -- the words spell a job whose base's records can't be had
 abbrev pub HasFullBaseJob : Option Files → Option Job → Type 0
 HasFullBaseJob m None = ⊥
 HasFullBaseJob m (Some (job.Rehearse found)) = HasFullBase m found
+HasFullBaseJob m (Some (job.Make found)) = ⊥
 
 -- the words spell a job that has too long a table
 abbrev pub HasLongTableJob : Option Files → Option Job → Type 0
 HasLongTableJob m None = ⊥
 HasLongTableJob m (Some (job.Rehearse found)) = HasLongTable m found
+HasLongTableJob m (Some (job.Make found)) = ⊥
 
 -- the words spell a job whose input isn't taken yet
 abbrev pub IsUnbuiltJob : Option Files → Option Job → Type 0
 IsUnbuiltJob m None = ⊥
 IsUnbuiltJob m (Some (job.Rehearse found)) = IsUnbuilt m found
+IsUnbuiltJob m (Some (job.Make found)) = ⊥

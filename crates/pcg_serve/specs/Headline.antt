@@ -39,6 +39,10 @@ use Rattle.pcg_serve.specs.declared.stops.Stop.{Stop}
 use Rattle.pcg_serve.specs.declared.stops.Stop.TheVariants as stops
 use Rattle.pcg_serve.specs.Statuses.{status_of}
 use Rattle.pcg_serve.specs.Causes.{ReadBroke, Seen, StopCause, StatusSo, TablesRead, WriteBroke, has_one_client}
+use Rattle.pcg_serve.specs.Printing.{Prints}
+use Rattle.pcg_serve.specs.Making.{IsMade, MakeOutcome}
+use Rattle.made_files.specs.Writing.{KeepsBut}
+use Rattle.made_files.specs.Files.{files_of}
 use Rattle.pcg_serve.specs.Texts.{stop_text, summary_line}
 
 -- the lines of a log, its oldest entry first
@@ -142,6 +146,7 @@ IsDone job before after (Some old) (Some new) = (printed : List ℕ) × (new ≡
 abbrev pub IsJobDone : Option Job → Option Files → Option Files → Option (List ℕ) → Option (List ℕ) → Type 0
 IsJobDone None before after old new = ⊥
 IsJobDone (Some (job.Rehearse found)) before after old new = IsDone found before after old new
+IsJobDone (Some (job.Make found)) before after old new = IsMade found before after old new
 
 -- an answer file has the texts of these replies, and a front of the text of the one whose writing failed
 abbrev pub HasTexts : List ℕ → List Reply → Option Reply → Type 0
@@ -188,14 +193,11 @@ KeepsOthers stems None after = ⊤
 KeepsOthers stems (Some before) None = ⊥
 KeepsOthers stems (Some before) (Some after) = (name : List ℕ) → is_answer_file stems name ≡ false → get after name ≡ get before name
 
--- the stems of the job that words spell
-abbrev pub stems_of : Option Job → List (List ℕ)
-stems_of None = []
-stems_of (Some (job.Rehearse found)) = found.stems
-
--- an output gained just this text, or it failed and gained a front of it
-abbrev pub Prints : Option (List ℕ) → Option (List ℕ) → ℕ → ℕ → List ℕ → Type 0
-Prints held held' outs outs' text = Appends held held' text ⊎ (AppendsFront held held' text × Rose outs outs')
+-- where the place tells its bytes, none but the files that the words' job writes have changed
+abbrev pub KeepsJobOthers : Option Job → Option Files → Option Files → Type 0
+KeepsJobOthers None before after = KeepsOthers [] before after
+KeepsJobOthers (Some (job.Rehearse found)) before after = KeepsOthers found.stems before after
+KeepsJobOthers (Some (job.Make found)) before after = KeepsBut (files_of found) before after
 
 -- the fault that a session ends in, if the writing of a reply failed, or a read of the requests did: the first one comes first
 unfoldable pub fault_of : Bool → Bool → Option Fault
@@ -281,6 +283,9 @@ JobOutcome files files' left None old new held held' outs outs' status =
     KeepsFiles files files' × (((status ≡ 1) × Prints held held' outs outs' (stop_text stops.BadWords)) ⊎ ((status ≡ 5) × Prints held held' outs outs' (stop_text stops.NoMemory)))
 JobOutcome files files' left (Some (job.Rehearse found)) old new held held' outs outs' status =
     Outcome files files' left found old new held held' outs outs' status ⊎ (KeepsFiles files files' × (status ≡ 5) × Prints held held' outs outs' (stop_text stops.NoMemory))
+JobOutcome files files' left (Some (job.Make found)) old new held held' outs outs' status =
+    MakeOutcome found (record { files = files; writes = old.writes; counts = old.counts }) (record { files = files'; writes = new.writes; counts = new.counts }) held held' outs outs' status
+    ⊎ (KeepsFiles files files' × (status ≡ 5) × Prints held held' outs outs' (stop_text stops.NoMemory))
 
 -- each count stood still
 abbrev pub IsFaultless : ℕ → ℕ → ℕ → ℕ → ℕ → ℕ → Type 0

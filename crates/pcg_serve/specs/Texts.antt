@@ -79,3 +79,10 @@ summary_line accepted clients entries faults lines records refused roots status 
 
 abbrev pub summary_text : Summary → List ℕ
 summary_text s = summary_line s.accepted s.clients s.entries s.faults.items s.lines s.records s.refused s.roots s.status
+
+-- the line of a call that made all files
+unfoldable pub made_line : ℕ → ℕ → ℕ → List ℕ
+made_line edges lines supervoxels =
+    line
+    (member (codes "edges") (decimal edges) ∷ member (codes "lines") (decimal lines) ∷ member (codes "status") (decimal 0)
+    ∷ member (codes "supervoxels") (decimal supervoxels) ∷ [])

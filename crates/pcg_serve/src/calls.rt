@@ -6,8 +6,10 @@ ghost use Rattle.pcg_base.specs.Told.{IsFlushed};
 ghost use Rattle.pcg_words.specs.Words.{MeetsMode, job_of};
 ghost use Rattle.pcg_serve.specs.Causes.{HasBadTableJob, HasFullBaseJob, HasLongTableJob, IsDueJob, IsUnbuiltJob};
 ghost use Rattle.pcg_serve.specs.Texts.{stop_text};
-ghost use Rattle.pcg_serve.specs.Headline.{IsFaultless, IsJobDone, IsQuiet, JobOutcome, KeepsOthers, Prints, stems_of};
+ghost use Rattle.pcg_serve.specs.Headline.{IsFaultless, IsJobDone, IsQuiet, JobOutcome, KeepsJobOthers};
+ghost use Rattle.pcg_serve.specs.Printing.{Prints};
 
+use crate::making::run_make;
 use crate::rehearsal::{run_rehearse, stopped};
 use crate::stops::Stop;
 use pcg_base::{Clock, Gate, Place, Sink};
@@ -15,7 +17,7 @@ use pcg_words::{Job, WordsError, read_words};
 use std::alloc::Global;
 
 /// Does the job that the words of the command line spell, and answers the status. It writes what
-/// [`run_rehearse`] writes, or the fault line of wrong words; the status is 1 exactly where the words
+/// [`run_rehearse`] or [`run_make`] writes, or the fault line of wrong words; the status is 1 exactly where the words
 /// spell no job. It asks neither the clock nor the gate yet.
 pub fn run<P: Place, C: Clock + Sync, G: Gate + Sync, K: Sink>(
     alloc: Global,
@@ -44,7 +46,7 @@ pub fn run<P: Place, C: Clock + Sync, G: Gate + Sync, K: Sink>(
     ensures bad_words_line { result ≡ 1 → Prints (K.held out.old) (K.held out.new) (K.faults out.old) (K.faults out.new) (stop_text Stop.BadWords) }
     ensures not_built_line { result ≡ 8 → Prints (K.held out.old) (K.held out.new) (K.faults out.old) (K.faults out.new) (stop_text Stop.NotBuilt) }
     ensures no_memory_line { result ≡ 5 → Prints (K.held out.old) (K.held out.new) (K.faults out.old) (K.faults out.new) (stop_text Stop.NoMemory) }
-    ensures others { KeepsOthers (stems_of (job_of words.now)) (P.files place.old) (P.files place.new) }
+    ensures others { KeepsJobOthers (job_of words.now) (P.files place.old) (P.files place.new) }
     ensures reads { P.read_faults place.old ≤ P.read_faults place.new }
     ensures writes { P.write_faults place.old ≤ P.write_faults place.new }
     ensures later { K.faults out.old ≤ K.faults out.new }
@@ -73,12 +75,13 @@ fn run_job<P: Place, K: Sink>(alloc: Global, job: &Job, place: &mut P, out: &mut
     ensures full { result ≡ 6 → HasFullBaseJob (P.files place.old) (Some job.now) }
     ensures not_built_line { result ≡ 8 → Prints (K.held out.old) (K.held out.new) (K.faults out.old) (K.faults out.new) (stop_text Stop.NotBuilt) }
     ensures no_memory_line { result ≡ 5 → Prints (K.held out.old) (K.held out.new) (K.faults out.old) (K.faults out.new) (stop_text Stop.NoMemory) }
-    ensures others { KeepsOthers (stems_of (Some job.now)) (P.files place.old) (P.files place.new) }
+    ensures others { KeepsJobOthers (Some job.now) (P.files place.old) (P.files place.new) }
     ensures reads { P.read_faults place.old ≤ P.read_faults place.new }
     ensures writes { P.write_faults place.old ≤ P.write_faults place.new }
     ensures later { K.faults out.old ≤ K.faults out.new }
 {
     match job {
         Job::Rehearse(job) => run_rehearse(alloc, job, place, out),
+        Job::Make(job) => run_make(alloc, job, place, out),
     }
 }

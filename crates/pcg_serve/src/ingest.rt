@@ -1,7 +1,7 @@
 //! What the two tables make: a base, and the log that it begins.
 
 ghost use Rattle.std.specs.Prelude.{◌≡◌, ◌<◌, ℕ, IfOk, IfErr};
-ghost use Rattle.pcg_words.specs.Job.{HasRanges};
+ghost use Rattle.pcg_words.specs.Job.{RehearseRanges};
 ghost use Rattle.op_model.specs.Valid.{IsDataset};
 ghost use Rattle.table_ingest.specs.Bases.{Spells};
 ghost use Rattle.record_rows.specs.Readings.{Image};
@@ -46,7 +46,7 @@ pub struct Begun {
 /// The dataset of a job.
 #[tactic(auto, unfolding(crate::specs::Jobs::dataset_of))]
 fn dataset_of(job: &RehearseJob) -> Dataset
-    requires { HasRanges job.now }
+    requires { RehearseRanges job.now }
     ensures is { result ≡ dataset_of job.now }
     ensures fine { IsDataset result }
 {
@@ -117,7 +117,7 @@ pub fn make_ingest(
     supervoxels: &[u8],
     edges: &[u8],
 ) -> Result<Begun, Stop>
-    requires ranges { HasRanges job.now }
+    requires ranges { RehearseRanges job.now }
     ensures made { IfOk result (λ b. IsIngest b.ingest) }
     ensures words { IfOk result (λ b. AreWords b.ingest b.words.words) }
     ensures dataset { IfOk result (λ b. b.ingest.dataset ≡ dataset_of job.now) }

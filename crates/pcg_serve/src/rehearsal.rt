@@ -4,10 +4,11 @@ ghost use Rattle.std.specs.Prelude.{◌≡◌, ◌≤◌, ◌<◌, ◌⊎◌, �
 ghost use Rattle.std.specs.Io.KnownBytes.{Appends};
 ghost use Rattle.pcg_base.specs.Causes.{HasCause, Rose};
 ghost use Rattle.pcg_base.specs.Told.{AppendsFront, IsFlushed};
-ghost use Rattle.pcg_words.specs.Job.{IsJob};
+ghost use Rattle.pcg_words.specs.Job.{IsRehearse};
 ghost use Rattle.request_lines.specs.Texts.{text_of_entry};
 ghost use Rattle.pcg_serve.specs.Causes.{EndsSo, HasBadTable, HasFullBase, HasLongTable, IsDue, IsUnbuilt, StatusSo, StopCause, has_one_client};
-ghost use Rattle.pcg_serve.specs.Headline.{CamePast, IsDone, IsFaultless, IsQuiet, KeepsOthers, Outcome, Prints, Sums, fault_of, fault_status, faults_of};
+ghost use Rattle.pcg_serve.specs.Headline.{CamePast, IsDone, IsFaultless, IsQuiet, KeepsOthers, Outcome, Sums, fault_of, fault_status, faults_of};
+ghost use Rattle.pcg_serve.specs.Printing.{Prints};
 ghost use Rattle.pcg_serve.specs.Statuses.{status_of};
 ghost use Rattle.pcg_serve.specs.Texts.{stop_text, summary_text};
 
@@ -102,7 +103,7 @@ fn summary_of(ingest: &Ingest, ended: Ended, faults: Vec<ClientFault>) -> Summar
 
 /// Goes through the steps of a rehearsal up to the end of its sessions.
 fn rehearse<P: Place>(alloc: Global, job: &RehearseJob, place: &mut P) -> Result<Rehearsed, Stop>
-    requires { IsJob job.now }
+    requires { IsRehearse job.now }
     ensures stop { IfErr result (λ stop. StopCause (P.files place.old) (P.files place.new) (P.left_at place.new) job.now (record { reads = P.read_faults place.old; writes = P.write_faults place.old; counts = P.counts place.old }) (record { reads = P.read_faults place.new; writes = P.write_faults place.new; counts = P.counts place.new }) stop) }
     ensures came { IfOk result (λ r. CamePast (P.files place.old) (P.files place.new) (P.left_at place.new) job.now (record { reads = P.read_faults place.old; writes = P.write_faults place.old; counts = P.counts place.old }) (record { reads = P.read_faults place.new; writes = P.write_faults place.new; counts = P.counts place.new }) (text_of_entry r.ingest.entry ++ summary_text r.summary) r.summary.status) }
     ensures others { KeepsOthers job.now.stems (P.files place.old) (P.files place.new) }
@@ -184,7 +185,7 @@ pub fn run_rehearse<P: Place, K: Sink>(
     place: &mut P,
     out: &mut K,
 ) -> u8
-    requires { IsJob job.now }
+    requires { IsRehearse job.now }
     ensures done { result ≡ 0 → IsDone job.now (P.files place.old) (P.files place.new) (K.held out.old) (K.held out.new) }
     ensures flushed { result ≡ 0 → IsFlushed (K.held out.new) (K.flushed out.new) }
     ensures faultless { result ≡ 0 → IsFaultless (P.read_faults place.old) (P.read_faults place.new) (P.write_faults place.old) (P.write_faults place.new) (K.faults out.old) (K.faults out.new) }

@@ -2,7 +2,7 @@
 
 ghost use Rattle.std.specs.Prelude.{◌≡◌, ◌≢◌, ◌≤◌, ℕ, List, length, IfOk, IfErr, OnOk};
 ghost use Rattle.pcg_base.specs.Told.{KeepsFiles};
-ghost use Rattle.pcg_words.specs.Job.{IsJob};
+ghost use Rattle.pcg_words.specs.Job.{IsRehearse};
 ghost use Rattle.pcg_serve.specs.Causes.{IsLater, TableStop, TablesRead, TablesStop, WasRead};
 ghost use Rattle.pcg_serve.specs.Ingests.{AreWords, IsIngest};
 ghost use Rattle.pcg_serve.specs.Jobs.{HasBase, HasTable, clock_time, dataset_of};
@@ -44,7 +44,7 @@ fn read_table<P: Place>(
 
 /// Reads the two tables of a job, and makes of them a base and the log that it begins.
 pub fn read_tables<P: Place>(alloc: Global, job: &RehearseJob, place: &mut P) -> Result<Begun, Stop>
-    requires { IsJob job.now }
+    requires { IsRehearse job.now }
     ensures made { IfOk result (λ b. IsIngest b.ingest) }
     ensures words { IfOk result (λ b. AreWords b.ingest b.words.words) }
     ensures dataset { IfOk result (λ b. b.ingest.dataset ≡ dataset_of job.now) }

@@ -57,9 +57,32 @@ pub struct RehearseJob {
     pub stems: Names,
 }
 
+/// Tables and request streams that are made from a number.
+#[derive(Drop)]
+pub struct MakeJob {
+    /// How many bits of an id each coordinate takes, from 1 to 16.
+    pub bits: u64,
+    /// How many base chunks there are along each axis, at most 2 to the number of bits each.
+    pub grid: Grid,
+    /// The file of the supervoxel table.
+    pub supervoxels: Name,
+    /// The file of the edge table.
+    pub edges: Name,
+    /// The number that all is made from.
+    pub from: u64,
+    /// How many supervoxels there are, from 1 to 1000000.
+    pub size: u64,
+    /// How many lines each client's stream has, at most 100000.
+    pub requests: u64,
+    /// The clients' stems: client i has the file STEM.req.
+    pub stems: Names,
+}
+
 /// A job of the program, by its mode.
 #[derive(Drop)]
 pub enum Job {
     /// Answer request streams on one thread.
     Rehearse(RehearseJob),
+    /// Make tables and request streams.
+    Make(MakeJob),
 }

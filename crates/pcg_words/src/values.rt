@@ -1,21 +1,12 @@
 //! The values of single words.
 
-ghost use Rattle.std.specs.Prelude.{◌≡◌, ◌≤◌, ◌<◌, ◌^◌, ◌-◌, ◌==◌, length, IfSome, Some};
-ghost use Rattle.std.specs.Str.{is_utf8};
-ghost use Rattle.pcg_words.specs.Words.{number_within, grid_of, ticks_of, word};
-ghost use Rattle.pcg_words.specs.Job.{IsAxis, is_name};
+ghost use Rattle.std.specs.Prelude.{◌≡◌, ◌≤◌, ◌<◌, ◌^◌, IfSome, Some};
+ghost use Rattle.pcg_words.specs.Words.{number_within, grid_of, ticks_of};
+ghost use Rattle.pcg_words.specs.Job.{IsAxis};
 
 use chunk_geometry::Grid;
 use node_ids::read_digits;
 use pcg_base::{Ticks, cut_at};
-
-/// The bytes of a word.
-pub fn word(words: &[Vec<u8>], k: usize) -> &[u8]
-    requires { k < length words.now }
-    ensures { result.now ≡ word words.now k }
-{
-    words[k].as_slice()
-}
 
 /// A number from low to high.
 #[tactic(auto, unfolding(crate::specs::Words::number_within))]
@@ -86,20 +77,4 @@ pub fn ticks_of(text: &[u8]) -> Option<Ticks>
         return None;
     };
     Some(Ticks { start, step })
-}
-
-/// Whether bytes are UTF-8.
-#[tactic(auto, using(crate::proofs::Texts::is_text, crate::proofs::Texts::is_no_text))]
-fn is_utf8(text: &[u8]) -> bool
-    ensures { result ≡ is_utf8 text.now }
-{
-    str::from_utf8(text).is_ok()
-}
-
-/// Whether a text may name a file.
-#[tactic(auto, unfolding(crate::specs::Job::is_name))]
-pub fn is_name(text: &[u8]) -> bool
-    ensures { result ≡ is_name text.now }
-{
-    !text.is_empty() && text[0] != b'-' && is_utf8(text)
 }

@@ -6,16 +6,16 @@ use Rattle.op_model.specs.declared.base.Base.{Base}
 use Rattle.op_model.specs.declared.base.Edge.{Edge}
 use Rattle.op_model.specs.declared.entry.Changed.{Changed}
 use Rattle.op_model.specs.declared.entry.Entry.{Entry}
-use Rattle.op_model.specs.Samples.{base, data_a, regained}
+use Rattle.op_model.specs.Samples.{base, data_a, halved, ingested, regained}
 use Rattle.record_rows.specs.Rows.{Row, HeaderRow, SupervoxelRow, ChunkRow, NodeRow, LinkRow, EdgeRow, ChangeRow, ItemRow, EntryRow, Node}
 use Rattle.record_rows.specs.Chains.{has_id}
 use Rattle.record_rows.specs.Words.{fixed_words, layout_word}
 use Rattle.record_rows.specs.LogRows.{rows_of}
 use Rattle.record_rows.specs.Readings.{Image, Holds, HoldsChange, HoldsChunk, HoldsEdge, HoldsId, HoldsNode, HoldsSupervoxel}
-use Rattle.row_tests.specs.Samples.{words_regained}
+use Rattle.row_tests.specs.Samples.{words_halved, words_ingested, words_regained}
 use Rattle.record_rows.proofs.ImageFacts.{header, image_fixed, parent_image, within}
 use Rattle.record_rows.proofs.TellLemmas.{length-words_of}
-use Rattle.row_tests.proofs.SampleImages.{regained_image}
+use Rattle.row_tests.proofs.SampleImages.{halved_image, ingested_image, regained_image}
 use Rattle.row_tests.specs.Kinds.{HasKind, IsOwner, IsSample, Node as ANode, Supervoxel as ASupervoxel}
 
 -- the code of a record's kind
@@ -155,3 +155,9 @@ header_within words s =
 
 pub regained_sample : (words : List ℕ) → words ≡ words_regained → IsSample words
 regained_sample words e = record { log = regained; image = subst (Image data_a base regained) (sym e) regained_image }
+
+pub ingested_sample : (words : List ℕ) → words ≡ words_ingested → IsSample words
+ingested_sample words e = record { log = ingested; image = subst (Image data_a base ingested) (sym e) ingested_image }
+
+pub halved_sample : (words : List ℕ) → words ≡ words_halved → IsSample words
+halved_sample words e = record { log = halved; image = subst (Image data_a base halved) (sym e) halved_image }

@@ -1,11 +1,11 @@
--- The words of the sample are the image of its log.
-use Rattle.std.proofs.Common.{◌≡◌, ℕ, ◌<◌, ◌≤◌, ltb, leb, true, refl, arith}
+-- The words of each sample are the image of its log.
+use Rattle.std.proofs.Common.{◌≡◌, ℕ, ◌<◌, ◌≤◌, ltb, leb, true, List, [], ◌∷◌, refl, arith}
 use Rattle.std.proofs.lemmas.Bool.{leb-true, ltb-true}
-use Rattle.op_model.specs.declared.request.Edit.TheVariants.{Undo, Redo}
+use Rattle.op_model.specs.declared.request.Edit.TheVariants.{Undo, Redo, Split}
 use Rattle.op_model.specs.Valid.{IsDataset, IsBase}
-use Rattle.op_model.specs.Samples.{p, q, r, s, join, base, data_a, regained}
+use Rattle.op_model.specs.Samples.{p, q, r, s, join, base, data_a, halved, ingested, regained}
 use Rattle.op_model.proofs.Opened.{definitions}
-use Rattle.row_tests.specs.Samples.{words_regained}
+use Rattle.row_tests.specs.Samples.{words_halved, words_ingested, words_regained}
 use Rattle.record_rows.specs.Readings.{Image}
 use Rattle.record_rows.proofs.Opened.{row_definitions}
 
@@ -41,6 +41,28 @@ regained_image = record {
   base = sample_base;
   legal = ((Undo 1, refl, refl, below _ _ refl, below _ _ refl), ((Redo 1, refl, refl, below _ _ refl, below _ _ refl), ((join p s, refl, refl, below _ _ refl, below _ _ refl), ((Undo 1, refl, refl, below _ _ refl, below _ _ refl), ((join r s, refl, refl, below _ _ refl, below _ _ refl), (refl, below _ _ refl, ((below _ _ refl, (below _ _ refl, (below _ _ refl, (below _ _ refl, tt)))), ((below _ _ refl, (below _ _ refl, (below _ _ refl, (below _ _ refl, tt)))), tt))))))));
   numbers = ((below _ _ refl, below _ _ refl), ((below _ _ refl, below _ _ refl), ((below _ _ refl, below _ _ refl), ((below _ _ refl, below _ _ refl), ((below _ _ refl, below _ _ refl), ((below _ _ refl, below _ _ refl), tt))))));
+  fits = at_most _ _ refl;
+  stands = refl;
+}
+
+pub ingested_image : Image data_a base ingested words_ingested
+unfolding definitions row_definitions
+ingested_image = record {
+  dataset = sample_dataset;
+  base = sample_base;
+  legal = (refl, below _ _ refl, ((below _ _ refl, (below _ _ refl, (below _ _ refl, (below _ _ refl, tt)))), ((below _ _ refl, (below _ _ refl, (below _ _ refl, (below _ _ refl, tt)))), tt)));
+  numbers = ((below _ _ refl, below _ _ refl), tt);
+  fits = at_most _ _ refl;
+  stands = refl;
+}
+
+pub halved_image : Image data_a base halved words_halved
+unfolding definitions row_definitions
+halved_image = record {
+  dataset = sample_dataset;
+  base = sample_base;
+  legal = ((Split (p ∷ []) (s ∷ []), refl, refl, below _ _ refl, below _ _ refl), ((join r s, refl, refl, below _ _ refl, below _ _ refl), ingested_image.legal));
+  numbers = ((below _ _ refl, below _ _ refl), ((below _ _ refl, below _ _ refl), ((below _ _ refl, below _ _ refl), tt)));
   fits = at_most _ _ refl;
   stands = refl;
 }

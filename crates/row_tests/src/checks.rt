@@ -65,6 +65,31 @@ pub fn has_parents_by_hints(w: &mut VecWords, place: u32, last: u32, wanted: &[u
     true
 }
 
+// one record as the hint of each
+fn keep_all(w: &mut VecWords, hint: u64)
+    ensures same { w.new ≡ w.old }
+{
+    for k in 0..80 {
+        w.set_hint(k, hint);
+    }
+}
+
+/// Whether the same is answered whatever record is kept as the hint of each link, where the newest
+/// link is that of the node or supervoxel.
+pub fn has_parents_by_links(w: &mut VecWords, place: u32, last: u32, wanted: &[u32]) -> bool
+    requires sample { IsSample w.old.words }
+    ensures same { w.new ≡ w.old }
+{
+    for hint in 0..80 {
+        keep_all(w, hint);
+        w.set_hint(place as u64, last as u64);
+        if !has_parents(w, place, last, wanted) {
+            return false;
+        }
+    }
+    true
+}
+
 /// Whether a supervoxel has these nodes in layer 2, and these roots, at the prefixes from 1 on.
 pub fn has_paths(w: &mut VecWords, place: u32, wanted: &[(u64, u64)]) -> bool
     requires sample { IsSample w.old.words }

@@ -8,7 +8,8 @@
 //! `last_about_by_changes`, `prefix_at` and `entry` of entries and times, and whole replies of `answer`; `parent_at`, `root_at`, `path_at`,
 //! `state_at` and `edges_of` at each prefix. What is wanted was worked out by a plain program that
 //! replays the log. The contracts promise the same of every log; these show the calls at work. Parents
-//! are asked for again with each record as the hint: a wrong hint changes no answer.
+//! are asked for again with each record as the hint, of their child or of all links: a wrong hint
+//! changes no answer.
 //!
 //! The words of small logs stand in `specs/Samples`, written by hand from the table of records.
 //! `worked_words` shows that the definitions give them. A base that is read from its tables is built
@@ -22,10 +23,11 @@
 //! record of an edge is written to 0, and all replies are asked for again: they are owed from the
 //! nodes and their links alone. A failure names the base and the first subject that differs.
 //!
-//! - `samples`, `names`: words of two logs, and names of numbers that stand in them
+//! - `samples`, `names`: words of three logs, and names of numbers that stand in them
 //! - `calls`, `entry_calls`: each call, where what it requires is there
 //! - `checks`: whether calls answer what is wanted, at each prefix and of lists
 //! - `word_tests`, `read_tests`, `reply_tests`: the tests of the samples
+//! - `edit_calls`, `edit_tests`: the locks and the plans of merges, undos and redos
 //! - `datasets`, `tables`: what is drawn
 //! - `wanted`: what the plain program finds
 //! - `reads`, `replies`: one read, and whether its reply is what is wanted
@@ -44,6 +46,10 @@ mod calls;
 mod checks;
 #[cfg(test)]
 mod datasets;
+#[cfg(test)]
+mod edit_calls;
+#[cfg(test)]
+mod edit_tests;
 #[cfg(test)]
 mod emptying;
 #[cfg(test)]

@@ -4,8 +4,8 @@ use crate::calls::{
     change_row, chunk_row, edge_at, edge_of, links_at, lists_at, node_row, places_of,
 };
 use crate::checks::{
-    are_lists, are_merge, change, has_edge_lists, has_parents, has_parents_by_hints, has_paths,
-    has_states, has_times,
+    are_lists, are_merge, change, has_edge_lists, has_parents, has_parents_by_hints,
+    has_parents_by_links, has_paths, has_states, has_times,
 };
 use crate::entry_calls::{entry_ahead, entry_lists, entry_row, length_of};
 use crate::names::*;
@@ -54,6 +54,7 @@ fn nodes_are_told(rt: HostRuntime) -> Result<(), NoMemory> {
     assert!(rt; links_at(&mut w, 34, 2) == Some((None, Some(Spot(53)))));
     assert!(rt; has_parents(&mut w, 4, 71, &[13, 24, 35, 47, 59, 68]));
     assert!(rt; has_parents_by_hints(&mut w, 4, 71, &[13, 24, 35, 47, 59, 68]));
+    assert!(rt; has_parents_by_links(&mut w, 4, 71, &[13, 24, 35, 47, 59, 68]));
     assert!(rt;
         has_paths(
             &mut w,

@@ -1,8 +1,8 @@
-//! The words of two logs of one base: supervoxels p and q in one base chunk, r and s in the next one,
+//! The words of three logs of one base: supervoxels p and q in one base chunk, r and s in the next one,
 //! with the edges p-q and q-r active and r-s not. They are those of `specs/Samples`.
 
 ghost use Rattle.std.specs.Prelude.{◌≡◌, ◌≤◌, IfOk};
-ghost use Rattle.row_tests.specs.Samples.{words_ingested, words_regained};
+ghost use Rattle.row_tests.specs.Samples.{words_halved, words_ingested, words_regained};
 
 use crate::names::*;
 use pcg_base::{NoMemory, VecWords, Words};
@@ -37,6 +37,62 @@ pub fn ingested(alloc: Global) -> Result<VecWords, NoMemory>
         5, RIGHT_1, 12, 0, 14, 0, 0, 0, //
         5, RIGHT_2, 13, 0, 15, 0, 0, 0, //
         9, 1000, 0, 0, 0, 0, 0, 0, //
+    ];
+    held(alloc, &items, 0)
+}
+
+/// With r and s merged, and p split from s.
+pub fn halved(alloc: Global) -> Result<VecWords, NoMemory>
+    ensures { IfOk result (λ v. v.words ≡ words_halved) }
+{
+    let items = [
+        2049, GRID, COUNTS, 1, 0, 0, 0, 0, //
+        2, P, 0, 0, 8, 16, 0, 0, //
+        2, Q, 0, 0, 8, 17, 0, 0, //
+        2, R, 0, 0, 9, 18, 0, 0, //
+        2, S, 0, 0, 10, 19, 0, 0, //
+        3, LEFT_0, 0, 0, 11, 0, 0, 0, //
+        3, RIGHT_0, 0, 0, 12, 0, 0, 0, //
+        3, TOP_0, 0, 0, 14, 0, 0, 0, //
+        262, P, Q, 10, 0, 0, 9, 0, //
+        262, Q, R, 7, 0, 0, 10, 0, //
+        6, R, S, 5, 32, 0, 0, 0, //
+        4, LEFT_1, P, 0, 16, 20, 0, 0, //
+        4, RIGHT_1, R, 0, 18, 21, 33, 13, //
+        4, RIGHT_2, S, 0, 19, 22, 33, 24, //
+        4, TOP_1, P, 0, 20, 0, 33, 15, //
+        4, TOP_2, S, 0, 22, 0, 33, 25, //
+        5, P, 1, 0, 11, 17, 0, 0, //
+        5, Q, 2, 0, 11, 0, 0, 0, //
+        5, R, 3, 0, 12, 0, 26, 0, //
+        5, S, 4, 0, 13, 0, 27, 0, //
+        5, LEFT_1, 11, 0, 14, 21, 28, 0, //
+        5, RIGHT_1, 12, 0, 14, 0, 0, 0, //
+        5, RIGHT_2, 13, 0, 15, 0, 0, 0, //
+        9, 1000, 0, 0, 0, 0, 0, 0, //
+        4, RIGHT_3, R, 1, 26, 29, 46, 34, //
+        4, TOP_3, P, 1, 28, 0, 46, 36, //
+        5, R, 3, 1, 24, 27, 38, 0, //
+        5, S, 4, 1, 24, 0, 39, 0, //
+        5, LEFT_1, 11, 1, 25, 29, 40, 0, //
+        5, RIGHT_3, 24, 1, 25, 0, 0, 0, //
+        264, R, 0, 0, 31, 0, 0, 0, //
+        520, S, 0, 0, 0, 0, 0, 0, //
+        263, R, S, 1, 10, 45, 0, 0, //
+        265, 1010, LINE, 1, 30, 32, 23, 0, //
+        4, RIGHT_4, R, 2, 38, 41, 0, 35, //
+        4, RIGHT_5, S, 2, 39, 42, 0, 0, //
+        4, TOP_4, P, 2, 40, 0, 0, 37, //
+        4, TOP_5, S, 2, 42, 0, 0, 0, //
+        5, R, 3, 2, 34, 0, 0, 0, //
+        5, S, 4, 2, 35, 0, 0, 0, //
+        5, LEFT_1, 11, 2, 36, 41, 0, 0, //
+        5, RIGHT_4, 34, 2, 36, 0, 0, 0, //
+        5, RIGHT_5, 35, 2, 37, 0, 0, 0, //
+        264, P, 0, 0, 44, 0, 0, 0, //
+        520, S, 0, 0, 0, 0, 0, 0, //
+        7, R, S, 2, 10, 0, 0, 0, //
+        521, 1020, LINE, 2, 43, 45, 33, 0, //
     ];
     held(alloc, &items, 0)
 }

@@ -92,6 +92,6 @@ fn drafts_are_applied(rt: HostRuntime) -> Result<(), NoMemory> {
     ];
     let mut wanted = held(rt.alloc(), &want, 0)?;
     assert!(rt; same_words(&mut w, &mut wanted));
-    assert_eq!(rt; (w.hint(0), w.hint(1), w.hint(2)), (0, 3, 0));
+    assert_eq!(rt; (w.hint(0), w.hint(1), w.hint(2)), (1, 3, 0));
     Ok(())
 }

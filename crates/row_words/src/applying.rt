@@ -7,17 +7,20 @@ ghost use Rattle.record_rows.specs.Growth.{stored};
 ghost use Rattle.row_words.specs.Drafts.{applied, store_of};
 
 use crate::draft::{Draft, DraftLink};
+use crate::skips::{keep_first, keep_link};
 use pcg_base::{VecWords, Words};
 
 /// Fills the draft's pointers and puts its records behind the words, which must end at the draft's
-/// tail and have room for them. Each link becomes the hint for its child's record. It takes no
-/// memory.
+/// tail and have room for them. Each link becomes the hint for its child's record, and the links
+/// before it get hints that lead on. The header's hint is the last record that stood before the first
+/// draft, as of the first entry. It takes no memory.
 pub fn apply(w: &mut VecWords, draft: &Draft)
     requires tail { length w.old.words ≡ 8 * draft.now.tail }
     requires room { 8 * length draft.now.rows ≤ w.old.spare }
     ensures { w.new ≡ word_store (applied draft.now w.old.words) (w.old.spare - 8 * length draft.now.rows) }
 {
     fill_pointers(w, draft);
+    keep_first(w);
     put_rows(w, draft);
 }
 
@@ -59,15 +62,6 @@ fn put_row(w: &mut VecWords, row: [u64; 8])
     let place = w.len() / 8;
     push_row(w, row);
     keep_link(w, row, place);
-}
-
-// a link is kept as the hint for its child's record, since it is the child's newest
-fn keep_link(w: &mut VecWords, row: [u64; 8], place: u64)
-    ensures { w.new ≡ w.old }
-{
-    if row[0] == 5 {
-        w.set_hint(row[2], place);
-    }
 }
 
 // the eight words of a record behind the others

@@ -11,18 +11,23 @@
 //!
 //! - `applying`: the words with a draft applied
 //! - `draft`: new records on their way into the words
+//! - `probing`: where a search probes next
 //! - `rows`: the words of one record
 //! - `searching`: the id of a record, and the record of an id, where ids ascend
+//! - `skips`: hints by which a reader skips along the links of one child
 #![tactic(auto)]
 
 mod applying;
 mod draft;
+mod probing;
 mod rows;
 mod searching;
+mod skips;
 mod spot;
 
 pub use applying::apply;
 pub use draft::{Draft, DraftLink};
+pub use probing::probe;
 pub use rows::{fixed, kind_of, pointer};
 pub use searching::{find_sorted, id_of, supervoxel};
 pub use spot::Spot;

@@ -1,8 +1,9 @@
-//! The record of an id, found by halving.
+//! The record of an id, found by halving of what the ids leave.
 
 ghost use Rattle.std.specs.Prelude.{◌≡◌, ◌<◌, ◌≤◌, ◌+◌, ◌*◌, ◌^◌, length};
 ghost use Rattle.record_rows.specs.Sorted.{FoundAmong, Sorted, id_at, supervoxel_count};
 
+use crate::probing::probe_ids;
 use crate::rows::fixed;
 use crate::spot::Spot;
 use pcg_base::Words;
@@ -16,8 +17,12 @@ pub fn find_sorted<W: Words>(w: &mut W, first: Spot, count: u32, id: u64) -> Opt
 {
     let mut low = 0;
     let mut high = count;
+    let mut below = 0;
+    let mut above = u64::MAX;
+    let mut before = u32::MAX;
     while low < high {
-        let middle = low + (high - low) / 2;
+        let middle = probe_ids(low, high, below, above, id, before);
+        before = high - low;
         let spot = behind(first, middle);
         let here = id_of(w, spot);
         if here == id {
@@ -25,8 +30,10 @@ pub fn find_sorted<W: Words>(w: &mut W, first: Spot, count: u32, id: u64) -> Opt
         }
         if here < id {
             low = middle + 1;
+            below = here;
         } else {
             high = middle;
+            above = here;
         }
     }
     None

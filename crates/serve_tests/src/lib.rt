@@ -11,6 +11,7 @@
 //!   and over ones that take all at once
 //! - `session_tests`: the lines of a client's stream, given one by one from reads of several sizes, and
 //!   a stream that breaks off
+//! - `make_tests`: files that are made from a number, and one that fails
 //! - `samples`, `calls`: two tables, requests, and what a call makes of them
 //! - `shut_place`: a place that opens nothing for writing
 #![tactic(auto)]
@@ -19,6 +20,8 @@
 mod calls;
 #[cfg(test)]
 mod device_tests;
+#[cfg(test)]
+mod make_tests;
 #[cfg(test)]
 mod outside_tests;
 #[cfg(test)]

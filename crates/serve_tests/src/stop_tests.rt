@@ -77,8 +77,8 @@ fn words(rt: HostRuntime) -> Result<(), Fail> {
         ),
         (
             "rehearse --bits 8 --grid 2,1,1 --supervoxels supervoxels.csv --edges edges.csv --merge-affinity 1 --clock 1000,10 first second",
-            1,
-            wrong,
+            8,
+            b"{\"fault\":\"NotBuilt\"}\n",
         ),
         (
             "rehearse --bits 8 --grid 2,1,1 --supervoxels supervoxels.csv --edges edges.csv --merge-affinity 1 --records 23 --clock 1000,10 first",

@@ -17,8 +17,9 @@ use Rattle.table_ingest.specs.Edges.{edges_of, same_ends}
 use Rattle.table_ingest.specs.Bases.{base_of, Spells, Faulty, AscendByPair}
 use Rattle.table_ingest.specs.declared.errors.Table.{Table}
 use Rattle.table_ingest.specs.declared.errors.Cause.{Cause}
-use Rattle.table_ingest.proofs.Orders.{Ascends, In, all_in, all_more}
-use Rattle.table_ingest.proofs.Places.{ids_order, edges_order, edge_before, put_ids, put_rows}
+use Rattle.op_model.proofs.Orders.{Ascends, In, all_in, all_more}
+use Rattle.op_model.proofs.EdgeOrders.{edges_order, edge_before}
+use Rattle.table_ingest.proofs.Places.{ids_order, put_ids, put_rows}
 use Rattle.table_ingest.proofs.Facts.{ids_good, edges_good}
 use Rattle.table_ingest.proofs.Total.{some_rows, same_rows}
 

@@ -3,7 +3,6 @@ mod Total
 mod Names
 mod Meanings
 mod Pairs
-mod Orders
 mod Places
 mod Facts
 pub mod BaseLemmas

@@ -24,7 +24,8 @@ use Rattle.op_model.proofs.MadeLemmas.{root_same}
 use Rattle.record_rows.proofs.EntryRecords.{number_told}
 use Rattle.record_rows.proofs.ImageFacts.{few}
 use Rattle.record_rows.proofs.RowFacts.{entries_few}
-use Rattle.timestamp_reader.specs.Places.{AreKnown, IsChangedBy, IsReadable}
+use Rattle.node_reader.specs.Readable.{AreKnown, IsReadable}
+use Rattle.timestamp_reader.specs.Places.{IsChangedBy}
 
 -- a log with an entry in it
 pub record Stand (log : List Entry) (n : ℕ) (e : Entry) : Type 0 where

@@ -1,15 +1,5 @@
-pub mod Climbs
-pub mod EndLists
 pub mod FirstWalks
 pub mod EntryFacts
-pub mod LeafParts
-pub mod NodeLeaves
-pub mod NodeChildren
-pub mod ChildRows
-pub mod LeafMeaning
-pub mod LeafWalks
-pub mod LeafLaws
 pub mod ReadPrefixes
 pub mod MadeRoots
 pub mod Refused
-pub mod Ascents

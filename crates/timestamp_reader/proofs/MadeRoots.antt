@@ -29,11 +29,11 @@ use Rattle.record_rows.proofs.NodeIds.{supervoxel_layer}
 use Rattle.record_rows.proofs.NodeOrder.{nodes_rows, node_all}
 use Rattle.record_rows.proofs.NodePlaces.{known, known_later}
 use Rattle.record_rows.proofs.PrefixNodes.{prefix_parts}
-use Rattle.timestamp_reader.proofs.ChildRows.{any_has}
+use Rattle.node_reader.proofs.ChildRows.{any_has}
 use Rattle.timestamp_reader.proofs.FirstWalks.{none_passes, stands_there}
-use Rattle.timestamp_reader.proofs.LeafLaws.{made_fresh, made_here, leaves_from}
-use Rattle.timestamp_reader.proofs.LeafMeaning.{node_id_layer}
-use Rattle.timestamp_reader.proofs.NodeLeaves.{Born, news_born, later_other}
+use Rattle.node_reader.proofs.LeafLaws.{made_fresh, made_here, leaves_from}
+use Rattle.node_reader.proofs.LeafMeaning.{node_id_layer}
+use Rattle.node_reader.proofs.NodeLeaves.{Born, news_born, later_other}
 
 -- of two ways to end a list, the shorter one ends the longer
 ends_in : {X : Type 0} (vs bs cs ds : List X) → vs ++ bs ≡ cs ++ ds → length ds ≤ length bs → (ms : List X) × (bs ≡ ms ++ ds)

@@ -1,4 +1,2 @@
 pub mod Places
-pub mod Spreads
-pub mod Laws
 pub mod Replies

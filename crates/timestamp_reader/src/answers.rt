@@ -11,13 +11,12 @@ ghost use Rattle.std.specs.List.{list_any};
 ghost use Rattle.op_model.specs.Refusals.{first_of, is_root_id, prefix_for, refuse_read, refuse_root};
 ghost use Rattle.op_model.specs.Transcript.{log_at};
 ghost use Rattle.record_rows.specs.Readings.{HoldsId, HoldsSupervoxel, ParentImage};
-ghost use Rattle.timestamp_reader.specs.Places.{IsReadable};
+ghost use Rattle.node_reader.specs.Readable.{IsReadable};
 ghost use Rattle.timestamp_reader.specs.Replies.{HoldsRoot, IsAnswer, IsAsked, prefix_of_read, reply_to};
 
-use crate::node_leaves::leaves;
-use crate::nodes::{path_at, root_at, top_of};
 use log_rows::{TimeRefusal, length, prefix_at};
 use node_ids::{NodeId, Parts};
+use node_reader::{leaves, path_at, root_at, top_of};
 use op_model::{Read, Refusal, Reply};
 use parent_rows::{find, node};
 use pcg_base::Words;

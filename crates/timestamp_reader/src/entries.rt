@@ -9,8 +9,8 @@ ghost use Rattle.log_rows.specs.Entries.{ForEntry, ForEntryAt, InEntry};
 ghost use Rattle.timestamp_reader.specs.Places.{IsChangedBy};
 
 use crate::first_roots::first_roots;
-use crate::roots::roots_of;
 use log_rows::{all_changed_at, asked_at, entry_spot, head_at, number};
+use node_reader::roots_of;
 use op_model::{ChangedPairs, Entry, Ids};
 use pcg_base::{NoMemory, Words};
 use row_words::Spot;

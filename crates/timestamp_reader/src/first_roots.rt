@@ -13,8 +13,8 @@ ghost use Rattle.record_rows.specs.Readings.{HoldsChunk, HoldsNode, ParentImage}
 ghost use Rattle.record_rows.specs.Walks.{first_in};
 ghost use Rattle.timestamp_reader.specs.Places.{FirstNodeAt, NodeAt, first_from};
 
-use crate::nodes::top_of;
 use node_ids::{NodeId, Parts};
+use node_reader::top_of;
 use op_model::Ids;
 use parent_rows::{chunk, first_node, next_node, node};
 use pcg_base::{NoMemory, Words};

@@ -1,4 +1,4 @@
-use Rattle.std.proofs.Common.{◌≡◌, ℕ, ◌+◌, ◌-◌, ◌/◌, List, length, sym, ◌∙◌, subst, arith}
+use Rattle.std.proofs.Common.{◌≡◌, ℕ, List, length, sym, ◌∙◌, subst, arith}
 use Rattle.op_model.specs.declared.base.Dataset.{Dataset}
 use Rattle.op_model.specs.declared.base.Base.{Base}
 use Rattle.op_model.specs.declared.entry.Entry.{Entry}
@@ -42,8 +42,8 @@ next_own-own-requires-clause-ascend g c =
     let count = c.count-count.ensures.is i.0 i.1 i.2 (subst (λ w. ParentImage i.0 i.1 i.2 (g.W.Words.words w)) (sym s) i.3) in
     subst (λ w. EntriesAscend (g.W.Words.words w) c.count-count.result) (sym c.loop-low.invariant.0) (ascends i.0 i.1 i.2 _ i.3 _ count)
 
-pub time-requires : goal.time-requires
-time-requires g c =
+pub time-here-requires : goal.time-here-requires
+time-here-requires g c =
     let i = c.requires.image in
     let inv = c.loop-low.invariant in
     let own = c.next_own-own in
@@ -60,20 +60,20 @@ number-found-requires g c =
     let s = c.time-first.ensures.same ∙ c.entry_spot-start.ensures.same in
     let count = c.count-count.ensures.is i.0 i.1 i.2 (subst (λ w. ParentImage i.0 i.1 i.2 (g.W.Words.words w)) (sym s) i.3) in
     let kind = subst (λ w. kind_at (g.W.Words.words w) own.result ≡ 9) inv.0 own.ensures.own in
-    record { entry = subst (λ w. AtEntry (g.W.Words.words w) own.result) (sym (c.time.ensures.same ∙ (own.ensures.same ∙ inv.0))) (at_own i.0 i.1 i.2 _ _ _ i.3 kind own.ensures.next.1 count) }
+    record { entry = subst (λ w. AtEntry (g.W.Words.words w) own.result) (sym (c.time-here.ensures.same ∙ (own.ensures.same ∙ inv.0))) (at_own i.0 i.1 i.2 _ _ _ i.3 kind own.ensures.next.1 count) }
 
-pub loop-low-preserved-then-time-t : goal.loop-low-preserved-then-time-t
-loop-low-preserved-then-time-t g c =
+pub loop-low-preserved-then-here-t : goal.loop-low-preserved-then-here-t
+loop-low-preserved-then-here-t g c =
     let inv = c.loop-low.invariant in
     let own = c.next_own-own in
     let s = c.time-first.ensures.same ∙ c.entry_spot-start.ensures.same in
     let counts : Counts (g.W.Words.words c.args.w.now) c.count-count.result = λ d b log i. c.count-count.ensures.is d b log (subst (λ w. ParentImage d b log (g.W.Words.words w)) (sym s) i) in
     let kind = subst (λ w. kind_at (g.W.Words.words w) own.result ≡ 9) inv.0 own.ensures.own in
     let before = own.ensures.same ∙ inv.0 in
-    let times = subst (λ w. AllAt (g.W.Words.words w) own.result c.time.result) before c.time.ensures.is in
-    let numbers = subst (λ w. AllNumber (g.W.Words.words w) own.result c.number-found.result) (c.time.ensures.same ∙ before) c.number-found.ensures.is in (
-      c.number-found.ensures.same ∙ (c.time.ensures.same ∙ before),
-      parts_low _ c.count-count.result own.result kind own.ensures.next.1 c.args.t c.loop-low.low c.loop-low.high 0 c.loop-low.found c.time.result inv.1 counts times c.number-found.result c.if-time-t.true numbers,
+    let times = subst (λ w. AllAt (g.W.Words.words w) own.result c.time-here.result) before c.time-here.ensures.is in
+    let numbers = subst (λ w. AllNumber (g.W.Words.words w) own.result c.number-found.result) (c.time-here.ensures.same ∙ before) c.number-found.ensures.is in (
+      c.number-found.ensures.same ∙ (c.time-here.ensures.same ∙ before),
+      parts_low _ c.count-count.result own.result kind own.ensures.next.1 c.args.t c.loop-low.low c.loop-low.high 0 c.loop-low.found c.time-here.result inv.1 counts times c.number-found.result c.if-here-t.true numbers,
       inv.2,
     )
 
@@ -81,18 +81,18 @@ pub loop-low-preserved : goal.loop-low-preserved
 loop-low-preserved g c =
     let inv = c.loop-low.invariant in
     let own = c.next_own-own in
-    let late = c.if-time-t.false in
+    let late = c.if-here-t.false in
     let s = c.time-first.ensures.same ∙ c.entry_spot-start.ensures.same in
     let counts : Counts (g.W.Words.words c.args.w.now) c.count-count.result = λ d b log i. c.count-count.ensures.is d b log (subst (λ w. ParentImage d b log (g.W.Words.words w)) (sym s) i) in
-    let middle : ℕ = c.loop-low.low + (c.loop-low.high - c.loop-low.low) / 2 in
+    let middle : ℕ = c.probe-middle.result in
     let kind = subst (λ w. kind_at (g.W.Words.words w) own.result ≡ 9) inv.0 own.ensures.own in
     let none = subst (λ w. NoneOwn (g.W.Words.words w) middle own.result) inv.0 own.ensures.none in
     let before = own.ensures.same ∙ inv.0 in
-    let times = subst (λ w. AllAt (g.W.Words.words w) own.result c.time.result) before c.time.ensures.is in
+    let times = subst (λ w. AllAt (g.W.Words.words w) own.result c.time-here.result) before c.time-here.ensures.is in
     let from = own.ensures.next.0 in
     let to = own.ensures.next.1 in (
-      c.time.ensures.same ∙ before,
-      parts_high _ c.count-count.result own.result kind own.ensures.next.1 c.args.t c.loop-low.low c.loop-low.high middle c.loop-low.found c.time.result inv.1 counts times (omega (arith, late)) from none,
+      c.time-here.ensures.same ∙ before,
+      parts_high _ c.count-count.result own.result kind own.ensures.next.1 c.args.t c.loop-low.low c.loop-low.high middle c.loop-low.found c.time-here.result inv.1 counts times (omega (arith, late)) from none,
       omega (arith, from, to),
     )
 

@@ -3,7 +3,7 @@ use Rattle.std.specs.Prelude.{MatchOption}
 use Rattle.std.specs.List.{list_any}
 use Rattle.graph_model.specs.Lists.{has}
 use Rattle.op_model.specs.Transcript.{log_at}
-use Rattle.timestamp_reader.specs.Places.{IsReadable}
+use Rattle.node_reader.specs.Readable.{IsReadable}
 use Rattle.timestamp_reader.specs.Replies.{HoldsRoot}
 use Rattle.timestamp_reader.proofs.Refused.{not_a_root, no_such_root}
 use Rattle.timestamp_reader.proofs.answers.root_of_prefix.Goals as goal

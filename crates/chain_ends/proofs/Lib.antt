@@ -1,0 +1,4 @@
+pub mod Lasts
+pub mod Keys
+pub mod EndFacts
+pub mod EdgeFinds

@@ -1,0 +1,4 @@
+pub mod NearEnds
+pub mod Ancestry
+pub mod Visiting
+pub mod Ending

@@ -1,0 +1,2 @@
+mod NewLeasts
+pub mod Counted

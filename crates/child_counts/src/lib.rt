@@ -1,0 +1,9 @@
+//! How many children the nodes have that an entry makes in one layer.
+//!
+//! The promise: they are as many as places of least leaves of the layer below whose nodes' least leaves in
+//! the layer are those of new nodes. So they can be counted before ids are given.
+//!
+//! - `laws`: this, as the contract of a function that does nothing
+#![tactic(auto)]
+
+pub mod laws;

@@ -1,0 +1,4 @@
+pub mod Among
+pub mod Taking
+pub mod Crossing
+pub mod Laws

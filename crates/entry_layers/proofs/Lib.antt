@@ -1,0 +1,5 @@
+mod LastNodes
+mod LayerSteps
+mod NewRoots
+mod Rounds
+mod AllLayers

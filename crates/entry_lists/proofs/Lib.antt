@@ -1,0 +1,11 @@
+pub mod Ascents
+pub mod Tails
+pub mod NodeFacts
+pub mod ChangeFacts
+pub mod EdgeFacts
+pub mod ItemFacts
+pub mod HeadFacts
+pub mod KeptFacts
+pub mod LinkFacts
+pub mod HeldFacts
+pub mod JoinFacts

@@ -1,0 +1,5 @@
+pub mod Parts
+pub mod Changing
+pub mod Items
+pub mod Links
+pub mod Drafting

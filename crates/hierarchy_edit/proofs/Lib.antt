@@ -1,0 +1,6 @@
+mod Committed
+mod Counts
+mod Draftings
+mod EntryFacts
+mod PlanKnown
+mod Refused

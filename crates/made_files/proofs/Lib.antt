@@ -1,0 +1,5 @@
+pub mod Maps
+mod Fronts
+mod Written
+mod Others
+mod Parts

@@ -1,0 +1,3 @@
+pub mod Ranks
+pub mod Children
+pub mod Orders

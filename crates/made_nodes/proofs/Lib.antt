@@ -1,0 +1,5 @@
+pub mod Once
+pub mod LastNumbers
+pub mod Steps
+pub mod Parted
+pub mod NewNodes

@@ -1,0 +1,4 @@
+pub mod NodeFacts
+pub mod PairFacts
+pub mod NodeAscent
+pub mod PairOrder

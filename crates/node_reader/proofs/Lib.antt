@@ -1,0 +1,10 @@
+pub mod Climbs
+pub mod EndLists
+pub mod LeafParts
+pub mod NodeLeaves
+pub mod NodeChildren
+pub mod ChildRows
+pub mod LeafMeaning
+pub mod LeafWalks
+pub mod LeafLaws
+pub mod Ascents

@@ -1,0 +1,60 @@
+-- Why files weren't made, and what is told of it.
+use Rattle.std.proofs.Common.{◌≡◌, ◌∙◌, ℕ, List, Option, refl, sym, ap, subst, arith, inl, inr}
+use Rattle.std.specs.Prelude.{◌⊎◌}
+use Rattle.pcg_base.specs.Causes.{Rose}
+use Rattle.pcg_words.specs.declared.job.MakeJob.{MakeJob}
+use Rattle.made_files.specs.Files.{Seen, StopsSo}
+use Rattle.made_files.specs.declared.stops.MadeFile.TheVariants as made
+use Rattle.made_files.specs.declared.stops.MakeStop.{MakeStop}
+use Rattle.made_files.specs.declared.stops.MakeStop.TheVariants as makes
+use Rattle.pcg_serve.specs.declared.stops.Stop.{Stop}
+use Rattle.pcg_serve.specs.declared.stops.Stop.TheVariants as stops
+use Rattle.pcg_serve.specs.Making.{stop_of}
+use Rattle.pcg_serve.specs.Printing.{Prints}
+use Rattle.pcg_serve.specs.Statuses.{status_of}
+use Rattle.pcg_serve.specs.Texts.{stop_text}
+
+pub stop_known : (stop : MakeStop) → (status_of (stop_of stop) ≡ 4) ⊎ (status_of (stop_of stop) ≡ 5)
+stop_known (makes.Failed made.Supervoxels) = inl refl
+stop_known (makes.Failed made.Edges) = inl refl
+stop_known (makes.Failed (made.Requests client)) = inl refl
+stop_known makes.NoMemory = inr refl
+
+pub known_so : (stop : MakeStop) (told : Stop) (status : ℕ) → told ≡ stop_of stop → status ≡ status_of told → (status ≡ 0) ⊎ (status ≡ 4) ⊎ (status ≡ 5)
+known_so stop told status t e = go (stop_known stop)
+  where
+    all : status ≡ status_of (stop_of stop)
+    all = e ∙ ap status_of t
+
+    go : (status_of (stop_of stop) ≡ 4) ⊎ (status_of (stop_of stop) ≡ 5) → (status ≡ 0) ⊎ (status ≡ 4) ⊎ (status ≡ 5)
+    go (inl k) = inr (inl (all ∙ k))
+    go (inr k) = inr (inr (all ∙ k))
+
+pub stop_rose : (job : MakeJob) (a b : Seen) (stop : MakeStop) (told : Stop) (status : ℕ) → told ≡ stop_of stop → status ≡ status_of told → StopsSo job a b stop → status ≡ 4 → Rose a.writes b.writes
+stop_rose job a b (makes.Failed file) told status t e h four = h.1
+stop_rose job a b makes.NoMemory told status t e h four =
+    let five : status ≡ 5 = e ∙ ap status_of t in
+    absurd (omega (arith, five, four))
+
+pub memory_told : (stop : MakeStop) (told : Stop) (status : ℕ) (a b : Option (List ℕ)) (i j : ℕ) → told ≡ stop_of stop → status ≡ status_of told → Prints a b i j (stop_text told) → status ≡ 5 → Prints a b i j (stop_text stops.NoMemory)
+memory_told (makes.Failed made.Supervoxels) told status a b i j t e p five =
+    let four : status ≡ 4 = e ∙ ap status_of t in
+    absurd (omega (arith, five, four))
+memory_told (makes.Failed made.Edges) told status a b i j t e p five =
+    let four : status ≡ 4 = e ∙ ap status_of t in
+    absurd (omega (arith, five, four))
+memory_told (makes.Failed (made.Requests client)) told status a b i j t e p five =
+    let four : status ≡ 4 = e ∙ ap status_of t in
+    absurd (omega (arith, five, four))
+memory_told makes.NoMemory told status a b i j t e p five = subst (λ s. Prints a b i j (stop_text s)) t p
+
+pub never_done : {A : Type 0} (stop : MakeStop) (told : Stop) (status : ℕ) → told ≡ stop_of stop → status ≡ status_of told → status ≡ 0 → A
+never_done {A = A} stop told status t e zero = go (stop_known stop)
+  where
+    go : (status_of (stop_of stop) ≡ 4) ⊎ (status_of (stop_of stop) ≡ 5) → A
+    go (inl k) =
+        let four : status ≡ 4 = e ∙ ap status_of t ∙ k in
+        absurd (omega (arith, four, zero))
+    go (inr k) =
+        let five : status ≡ 5 = e ∙ ap status_of t ∙ k in
+        absurd (omega (arith, five, zero))

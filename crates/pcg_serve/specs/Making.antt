@@ -1,0 +1,39 @@
+-- What a call of `make` promises.
+use Rattle.std.specs.Prelude.{◌≡◌, ◌*◌, ◌⊎◌, ℕ, List, length, Option}
+use Rattle.std.specs.Io.KnownBytes.{Appends}
+use Rattle.pcg_base.specs.Told.{Files}
+use Rattle.pcg_words.specs.declared.job.MakeJob.{MakeJob}
+use Rattle.made_input.specs.Texts.{input_of}
+use Rattle.made_files.specs.Files.{Seen, StopsSo, files_of, wish_of}
+use Rattle.made_files.specs.Writing.{PutsAll, PutsSome}
+use Rattle.made_files.specs.declared.stops.MadeFile.TheVariants as made
+use Rattle.made_files.specs.declared.stops.MakeStop.{MakeStop}
+use Rattle.made_files.specs.declared.stops.MakeStop.TheVariants as makes
+use Rattle.pcg_serve.specs.declared.stops.FileName.TheVariants as files
+use Rattle.pcg_serve.specs.declared.stops.Stop.{Stop}
+use Rattle.pcg_serve.specs.declared.stops.Stop.TheVariants as stops
+use Rattle.pcg_serve.specs.Causes.{StatusSo}
+use Rattle.pcg_serve.specs.Printing.{Prints}
+use Rattle.pcg_serve.specs.Statuses.{status_of}
+use Rattle.pcg_serve.specs.Texts.{made_line, stop_text}
+
+-- how it is told that files weren't made
+abbrev pub stop_of : MakeStop → Stop
+stop_of (makes.Failed made.Supervoxels) = stops.WriteFault 0 files.Supervoxels
+stop_of (makes.Failed made.Edges) = stops.WriteFault 0 files.Edges
+stop_of (makes.Failed (made.Requests client)) = stops.WriteFault client files.Requests
+stop_of makes.NoMemory = stops.NoMemory
+
+-- the line that is printed if all files were made
+abbrev pub made_text : MakeJob → List ℕ
+made_text job = made_line (input_of (wish_of job)).edge_count (length job.stems * job.requests) job.size
+
+-- where place and output tell their bytes, all files were made, and just that line was printed
+abbrev pub IsMade : MakeJob → Option Files → Option Files → Option (List ℕ) → Option (List ℕ) → Type 0
+IsMade job before after old new = PutsAll before after (files_of job) × Appends old new (made_text job)
+
+-- All files were made and no count rose, that line was printed, and the status is 0 or that of the output's fault. Or only some first ones were made and at most a front of the next one, for this reason, and the fault line alone was printed.
+abbrev pub MakeOutcome : MakeJob → Seen → Seen → Option (List ℕ) → Option (List ℕ) → ℕ → ℕ → ℕ → Type 0
+MakeOutcome job old new held held' outs outs' status =
+    (PutsAll old.files new.files (files_of job) × (new.writes ≡ old.writes) × Prints held held' outs outs' (made_text job) × StatusSo outs outs' 0 status)
+    ⊎ ((stop : MakeStop) × PutsSome old.files new.files (files_of job) × StopsSo job old new stop × (status ≡ status_of (stop_of stop)) × Prints held held' outs outs' (stop_text (stop_of stop)))

@@ -1,0 +1,121 @@
+//! Tables and requests that are made from a number.
+
+ghost use Rattle.std.specs.Prelude.{◌≡◌, ◌≤◌, ◌⊎◌, ◌*◌, OnErr, OnOk, length};
+ghost use Rattle.std.specs.Io.KnownBytes.{Appends};
+ghost use Rattle.pcg_base.specs.Causes.{HasCause, Rose};
+ghost use Rattle.pcg_base.specs.Told.{AppendsFront, IsFlushed};
+ghost use Rattle.pcg_words.specs.Job.{IsMake};
+ghost use Rattle.made_files.specs.Files.{files_of};
+ghost use Rattle.made_files.specs.Writing.{KeepsBut};
+ghost use Rattle.made_input.specs.Texts.{input_of};
+ghost use Rattle.made_files.specs.Files.{wish_of};
+ghost use Rattle.request_lines.specs.Sent.{Puts};
+ghost use Rattle.pcg_serve.specs.Causes.{StatusSo};
+ghost use Rattle.pcg_serve.specs.Making.{IsMade, MakeOutcome, made_text, stop_of};
+ghost use Rattle.pcg_serve.specs.Printing.{Prints};
+ghost use Rattle.pcg_serve.specs.Texts.{made_line, stop_text};
+
+use crate::rehearsal::stopped;
+use crate::stops::{FileName, Stop};
+use made_files::{MadeFile, MakeStop, make_files};
+use pcg_base::{Failed, Place, Sink};
+use pcg_words::MakeJob;
+use request_lines::Page;
+use std::alloc::Global;
+
+/// How it is told that files weren't made.
+fn stop_of(stop: MakeStop) -> Stop
+    ensures { result ≡ stop_of stop }
+{
+    match stop {
+        MakeStop::Failed {
+            file: MadeFile::Supervoxels,
+        } => Stop::WriteFault {
+            client: 0,
+            file: FileName::Supervoxels,
+        },
+        MakeStop::Failed {
+            file: MadeFile::Edges,
+        } => Stop::WriteFault {
+            client: 0,
+            file: FileName::Edges,
+        },
+        MakeStop::Failed {
+            file: MadeFile::Requests { client },
+        } => Stop::WriteFault {
+            client,
+            file: FileName::Requests,
+        },
+        MakeStop::NoMemory => Stop::NoMemory,
+    }
+}
+
+/// Puts the line of a call that made all files.
+#[tactic(auto, unfolding(crate::specs::Texts::made_line))]
+fn put_made<K: Sink>(page: &mut Page, out: &mut K, edges: u64, lines: u64, supervoxels: u64)
+    ensures { Puts (K.held out.old) (K.held out.new) (K.faults out.old) (K.faults out.new) page.old page.new (made_line edges lines supervoxels) }
+{
+    page.put_number(out, b"{\"edges\":", edges);
+    page.put_number(out, b",\"lines\":", lines);
+    page.put_number(out, b",\"status\":", 0);
+    page.put_number(out, b",\"supervoxels\":", supervoxels);
+    page.put(out, b"}\n");
+}
+
+/// Writes the line of a call that made all files. It takes no memory. Behind it all that the sink holds
+/// is flushed. After `Failed` a front of it was written.
+#[tactic(auto, using(request_lines::proofs::Whole::whole_ok))]
+fn write_made<K: Sink>(edges: u64, lines: u64, supervoxels: u64, out: &mut K) -> Result<(), Failed>
+    ensures ok { OnOk result (Appends (K.held out.old) (K.held out.new) (made_line edges lines supervoxels)) }
+    ensures err { OnErr result (AppendsFront (K.held out.old) (K.held out.new) (made_line edges lines supervoxels)) }
+    ensures flushed { OnOk result (IsFlushed (K.held out.new) (K.flushed out.new)) }
+    ensures cause { HasCause (K.faults out.old) (K.faults out.new) result }
+{
+    let mut page = Page::new();
+    put_made(&mut page, out, edges, lines, supervoxels);
+    page.finish(out)
+}
+
+/// Writes the line of a call that made all files, and answers the status.
+fn finish_made<K: Sink>(job: &MakeJob, edges: u32, out: &mut K) -> u8
+    requires few { (length job.now.stems ≤ 64) × (job.now.requests ≤ 100000) }
+    requires edges { edges ≡ (input_of (wish_of job.now)).edge_count }
+    ensures status { StatusSo (K.faults out.old) (K.faults out.new) 0 result }
+    ensures line { Prints (K.held out.old) (K.held out.new) (K.faults out.old) (K.faults out.new) (made_text job.now) }
+    ensures printed { result ≡ 0 → Appends (K.held out.old) (K.held out.new) (made_text job.now) }
+    ensures flushed { result ≡ 0 → IsFlushed (K.held out.new) (K.flushed out.new) }
+    ensures still { result ≡ 0 → K.faults out.new ≡ K.faults out.old }
+    ensures later { K.faults out.old ≤ K.faults out.new }
+{
+    let lines = job.stems.list.len() as u64 * job.requests;
+    match write_made(edges as u64, lines, job.size, out) {
+        Ok(()) => 0,
+        Err(Failed) => 4,
+    }
+}
+
+/// Makes the two tables and each client's requests from a number, and writes one line about them to
+/// `out`, or one fault line. The answer is the status:
+///
+/// - 0: done;
+/// - 4: a write or an opening for writing failed, or `out` did;
+/// - 5: memory ran out.
+pub fn run_make<P: Place, K: Sink>(alloc: Global, job: &MakeJob, place: &mut P, out: &mut K) -> u8
+    requires { IsMake job.now }
+    ensures done { result ≡ 0 → IsMade job.now (P.files place.old) (P.files place.new) (K.held out.old) (K.held out.new) }
+    ensures flushed { result ≡ 0 → IsFlushed (K.held out.new) (K.flushed out.new) }
+    ensures still { result ≡ 0 → (P.write_faults place.new ≡ P.write_faults place.old) × (K.faults out.new ≡ K.faults out.old) }
+    ensures known { (result ≡ 0) ⊎ (result ≡ 4) ⊎ (result ≡ 5) }
+    ensures write { result ≡ 4 → Rose (P.write_faults place.old) (P.write_faults place.new) ⊎ Rose (K.faults out.old) (K.faults out.new) }
+    ensures no_memory_line { result ≡ 5 → Prints (K.held out.old) (K.held out.new) (K.faults out.old) (K.faults out.new) (stop_text Stop.NoMemory) }
+    ensures outcome { MakeOutcome job.now (record { files = P.files place.old; writes = P.write_faults place.old; counts = P.counts place.old }) (record { files = P.files place.new; writes = P.write_faults place.new; counts = P.counts place.new }) (K.held out.old) (K.held out.new) (K.faults out.old) (K.faults out.new) result }
+    ensures others { KeepsBut (files_of job.now) (P.files place.old) (P.files place.new) }
+    ensures reads { P.read_faults place.new ≡ P.read_faults place.old }
+    ensures writes { P.write_faults place.old ≤ P.write_faults place.new }
+    ensures later { K.faults out.old ≤ K.faults out.new }
+{
+    match make_files(alloc, job, place) {
+        Ok(edges) => finish_made(job, edges, out),
+        Err(stop) => stopped(stop_of(stop), out),
+    }
+}

@@ -1,0 +1,5 @@
+pub mod Placing
+pub mod Linking
+pub mod Carried
+pub mod Renaming
+pub mod Cutting

@@ -1,0 +1,4 @@
+pub mod Gathering
+pub mod EndPlaces
+pub mod ChangedPlaces
+pub mod Whole

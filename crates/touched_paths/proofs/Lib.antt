@@ -1,0 +1,4 @@
+pub mod Orders
+pub mod Covering
+pub mod Climbs
+pub mod Passing

@@ -1,0 +1,4 @@
+pub mod Turning
+pub mod Walking
+pub mod PairFacts
+pub mod LastChanges
