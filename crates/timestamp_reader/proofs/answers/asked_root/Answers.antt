@@ -1,7 +1,11 @@
-use Rattle.std.proofs.Common.{◌∙◌, sym}
+use Rattle.std.proofs.Common.{sym, subst, ◌≡◌, ◌∙◌, Some}
+use Rattle.std.specs.Prelude.{MatchResult}
+use Rattle.op_model.specs.Refusals.{first_of, refuse_root}
+use Rattle.op_model.specs.Transcript.{log_at}
 use Rattle.parent_rows.proofs.ChainWalks.{image_kept}
+use Rattle.timestamp_reader.specs.Replies.{HoldsRoot}
 use Rattle.timestamp_reader.proofs.ReadPrefixes.{is_prefix, time_refused}
-use Rattle.timestamp_reader.proofs.Refused.{leaves_early, root_asked}
+use Rattle.timestamp_reader.proofs.Refused.{leaves_early, root_asked, root_unasked}
 use Rattle.timestamp_reader.proofs.answers.asked_root.Goals as goal
 
 pub returns-in-Err-clause-is : goal.returns-in-Err-clause-is
@@ -17,5 +21,13 @@ root_of_prefix-requires g c =
 pub returns-in-Ok-clause-is : goal.returns-in-Ok-clause-is
 returns-in-Ok-clause-is g c d b log i =
     let p = is_prefix d b log c.args.at c.in-Ok.prefix i.legal (sym (c.prefix_of.ensures.is d b log i) ∙ c.in-Ok.is) in
-    root_asked d b log c.args.root c.args.at c.in-Ok.prefix p c.root_of_prefix.result
-    (c.root_of_prefix.ensures.is d b log (record { image = image_kept g.W.Words.words d b log c.prefix_of.ensures.same i; low = p.low; high = p.high }))
+    root_asked d b log c.args.root c.args.at c.in-Ok.prefix c.in-Ok-spot.spot p
+    (subst (λ r. MatchResult r (HoldsRoot d b log (log_at d b log c.in-Ok.prefix) c.args.root) (λ e. first_of (refuse_root d b (log_at d b log c.in-Ok.prefix) c.args.root) ≡ Some e)) c.in-Ok-spot.is
+    (c.root_of_prefix.ensures.is d b log (record { image = image_kept g.W.Words.words d b log c.prefix_of.ensures.same i; low = p.low; high = p.high })))
+
+pub returns-in-Err-refusal-clause-is : goal.returns-in-Err-refusal-clause-is
+returns-in-Err-refusal-clause-is g c d b log i =
+    let p = is_prefix d b log c.args.at c.in-Ok.prefix i.legal (sym (c.prefix_of.ensures.is d b log i) ∙ c.in-Ok.is) in
+    root_unasked d b log c.args.root c.args.at c.in-Ok.prefix c.in-Err-refusal.refusal p
+    (subst (λ r. MatchResult r (HoldsRoot d b log (log_at d b log c.in-Ok.prefix) c.args.root) (λ e. first_of (refuse_root d b (log_at d b log c.in-Ok.prefix) c.args.root) ≡ Some e)) c.in-Err-refusal.is
+    (c.root_of_prefix.ensures.is d b log (record { image = image_kept g.W.Words.words d b log c.prefix_of.ensures.same i; low = p.low; high = p.high })))
