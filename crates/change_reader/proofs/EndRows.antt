@@ -1,23 +1,22 @@
 -- Which entry retired a root is what the records tell from its own on.
-use Rattle.std.proofs.Common.{◌≡◌, ℕ, ◌+◌, ◌<◌, ◌≤◌, Bool, true, false, cond, ◌&&◌, eqb, ltb, List, [], ◌∷◌, ◌++◌, length, map, Option, Some, None, refl, sym, ◌∙◌, ap, ap₂, subst, inl, inr, eq-eqb, arith, append-nil, length-append}
+use Rattle.std.proofs.Common.{◌≡◌, ℕ, ◌+◌, ◌<◌, ◌≤◌, Bool, true, false, cond, ◌&&◌, eqb, ltb, List, [], ◌∷◌, ◌++◌, length, map, Option, Some, None, refl, sym, ◌∙◌, ap, ap₂, subst, inl, inr, eq-eqb, arith, length-append, append_assoc}
 use Rattle.std.specs.List.{AllByRecursion, cons_option, filter_map, slice_get}
-use Rattle.std.proofs.lemmas.Bool.{cases_Bool, cond-true, cond-false, eqb-true, false_from_ne_true, lt-ltb, ltb-true}
+use Rattle.std.proofs.lemmas.Bool.{cases_Bool, eqb-true, false_from_ne_true, lt-ltb, ltb-true}
 use Rattle.std.proofs.lemmas.List.Elements.{filter_map-append}
 use Rattle.op_model.specs.declared.base.Dataset.{Dataset}
 use Rattle.op_model.specs.declared.base.Base.{Base}
 use Rattle.op_model.specs.declared.entry.Entry.{Entry}
 use Rattle.graph_model.specs.Lists.{has}
 use Rattle.graph_model.proofs.ListLemmas.{same_bool}
-use Rattle.op_model.specs.Answers.{leaves, leaves_at}
+use Rattle.op_model.specs.Answers.{leaves_at}
 use Rattle.op_model.specs.Labels.{touches}
 use Rattle.op_model.specs.Legal.{Legal}
-use Rattle.op_model.specs.Operations.{entry_at}
 use Rattle.op_model.specs.Valid.{IsDataset, IsBase}
 use Rattle.op_model.proofs.HistoryLemmas.{legal_prefix}
 use Rattle.record_rows.specs.Rows.{Row, SupervoxelRow, ChunkRow, NodeRow, LinkRow, EdgeRow, ChangeRow, ItemRow, EntryRow, Node}
 use Rattle.record_rows.specs.Chains.{retires}
 use Rattle.record_rows.specs.LogRows.{marks, chunks, new_edges, new_nodes, new_links, entry_rows, base_rows, rows_of}
-use Rattle.record_rows.specs.Walks.{retired_by, if_below, ended_below}
+use Rattle.record_rows.specs.Walks.{retired_by}
 use Rattle.record_rows.proofs.DifferLemmas.{all_more}
 use Rattle.record_rows.proofs.EntryRecords.{number_told, numbers_below}
 use Rattle.log_rows.proofs.EntryParts.{none_picked}
@@ -27,34 +26,29 @@ use Rattle.change_reader.proofs.EntryPlaces.{At, at_whole, each_entry, one_at, r
 use Rattle.change_reader.proofs.RootFacts.{own_retired}
 
 -- the first, or else the second
-pub or_else : Option ℕ → Option ℕ → Option ℕ
+unfoldable pub or_else : Option ℕ → Option ℕ → Option ℕ
 or_else None o = o
 or_else (Some k) o = Some k
 
 -- the number of the oldest entry whose record says that it retired the node
-pub first_end : Node → List Entry → Option ℕ
+unfoldable pub first_end : Node → List Entry → Option ℕ
 first_end n [] = None
 first_end n (e ∷ log) = or_else (first_end n log) (retired_by n (EntryRow e))
 
 -- whether this number is there
-pub names : Option ℕ → ℕ → Bool
+unfoldable pub names : Option ℕ → ℕ → Bool
 names None m = false
 names (Some k) m = eqb k m
 
 head_first : (xs : List ℕ) (o p : Option ℕ) → slice_get xs 0 ≡ p → slice_get (xs ++ cons_option o []) 0 ≡ or_else p o
 unfolding or_else
-head_first [] None p h = h ∙ end p h
-  where
-    end : (p : Option ℕ) → slice_get {T = ℕ} [] 0 ≡ p → p ≡ or_else p None
-    unfolding or_else
-    end None h = refl
-    end (Some k) h = refl
+head_first [] None None h = h
+head_first [] None (Some k) h = h
 head_first [] (Some k) None h = refl
 head_first [] (Some k) (Some j) h = cc
 head_first (x ∷ xs) o p h = end p h
   where
     end : (p : Option ℕ) → Some x ≡ p → Some x ≡ or_else p o
-    unfolding or_else
     end None h = cc
     end (Some k) h = h
 
@@ -111,12 +105,8 @@ module _ (d : Dataset) (b : Base) (valid : IsDataset d) (base : IsBase d b) (n :
       all xs [] q = tt
       all xs (e ∷ ys) q = (
         false_from_ne_true _ (λ t. made_once d b valid base g older r legal own (xs, ys, e, q, t)),
-        all (xs ++ e ∷ []) ys (q ∙ moved xs e ys),
+        all (xs ++ e ∷ []) ys (q ∙ sym (append_assoc xs (e ∷ []) ys)),
       )
-        where
-          moved : (xs : List Entry) (e : Entry) (ys : List Entry) → xs ++ e ∷ ys ≡ (xs ++ e ∷ []) ++ ys
-          moved [] e ys = refl
-          moved (x ∷ xs) e ys = ap (λ l. x ∷ l) (moved xs e ys)
 
   -- nor do their records say so
   none_shown : (log : List Entry) → AllByRecursion (λ e. e.number ≤ n.made) log → first_end n log ≡ None
@@ -139,11 +129,11 @@ module _ (d : Dataset) (b : Base) (valid : IsDataset d) (base : IsBase d b) (n :
 
   -- the first that says so is the one that did
   pub told : (newer : List Entry) → Legal d b (newer ++ g ∷ older) → Told (newer ++ g ∷ older) (first_end n (newer ++ g ∷ older))
+  unfolding first_end or_else retired_by retires
   told [] legal = subst (Told (g ∷ older)) (sym (none_first legal)) (none_yet legal)
   told (x ∷ newer) legal = go (first_end n (newer ++ g ∷ older)) refl (told newer (rest x newer legal))
     where
       shown : AllByRecursion (λ e. has e.retired r ≡ false) (newer ++ g ∷ older) → (t : Bool) → has x.retired r ≡ t → retired_by n (EntryRow x) ≡ cond t (Some x.number) None
-      unfolding retired_by retires
       shown a t q =
           let k : x.number ≡ length (newer ++ g ∷ older) = number_told d b x (newer ++ g ∷ older) legal in
           let s : length (newer ++ g ∷ older) ≡ length newer + length (g ∷ older) = length-append newer (g ∷ older) in
@@ -152,7 +142,6 @@ module _ (d : Dataset) (b : Base) (valid : IsDataset d) (base : IsBase d b) (n :
           ap₂ (λ (u v : Bool). cond (u && v) (Some x.number) None) l e
 
       go : (o : Option ℕ) → first_end n (newer ++ g ∷ older) ≡ o → Told (newer ++ g ∷ older) o → Told (x ∷ (newer ++ g ∷ older)) (or_else o (retired_by n (EntryRow x)))
-      unfolding or_else
       go (Some k) q t = (x ∷ t.0, t.1, t.2, ap (λ l. x ∷ l) t.3, t.4, t.5)
       go None q t = elim (cases_Bool (has x.retired r)) [
         | inl h ↦ subst (Told (x ∷ (newer ++ g ∷ older))) (sym (shown t true h)) ([], x, newer ++ g ∷ older, refl, refl, h)
@@ -161,16 +150,16 @@ module _ (d : Dataset) (b : Base) (valid : IsDataset d) (base : IsBase d b) (n :
 
   -- so of the entries it alone did
   pub ended : (log newer : List Entry) → Legal d b log → log ≡ newer ++ g ∷ older → (m : ℕ) (e : Entry) → At d b log m e → has e.retired r ≡ names (first_end n log) m
+  unfolding names
   ended log newer legal w m e at =
       go (first_end n log) (subst (λ l. Told l (first_end n l)) (sym w) (told newer (subst (Legal d b) w legal)))
     where
       go : (o : Option ℕ) → Told log o → has e.retired r ≡ names o m
-      unfolding names
       go None t = each_entry (λ x. has x.retired r ≡ false) at.newer e at.older (subst (AllByRecursion (λ x. has x.retired r ≡ false)) at.whole t)
       go (Some k) t =
           let f : Entry = t.1 in
           let here = at_whole d b log t.0 f t.2 legal t.3 in
-          let c : k ≡ length t.2 = sym t.4 ∙ number_told d b f t.2 here.legal in
+          let c : k ≡ length t.2 = sym t.4 ∙ number_told d b f t.2 (legal_prefix d b t.0 f t.2 (subst (Legal d b) t.3 legal)) in
           same_bool (has e.retired r) (eqb k m)
           (λ h. eq-eqb k m (c ∙ retired_only d b valid base log r (length t.2) m f e here at t.5 h))
           (λ h. let s : m ≡ length t.2 = sym (eqb-true k m h) ∙ c in subst (λ x. has x.retired r ≡ true) (one_at d b log (length t.2) f e here (subst (λ x. At d b log x e) s at)) t.5)

@@ -187,5 +187,5 @@ module _ (d : Dataset) (b : Base) (log : List Entry) (words : List ℕ) (n : ℕ
 
 -- an entry that isn't the first has others before it
 pub is_inner : (d : Dataset) (b : Base) (log : List Entry) (words : List ℕ) (n : ℕ) → Image d b log words → (n ≡ 0 → ⊥) → n < length log → IsInner d b log words n
-is_inner d b log words zero i no l = absurd (no refl)
-is_inner d b log words (suc n) i no l = record { image = parent_image d b log words i; low = omega arith; high = l }
+is_inner d b log words zero i other l = absurd (other refl)
+is_inner d b log words (suc n) i other l = record { image = parent_image d b log words i; low = omega arith; high = l }

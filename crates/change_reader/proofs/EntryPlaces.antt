@@ -15,7 +15,7 @@ use Rattle.op_model.proofs.HistoryLemmas.{legal_prefix}
 use Rattle.record_rows.proofs.EntryRecords.{number_told}
 use Rattle.record_rows.proofs.PrefixNodes.{prefix_parts}
 use Rattle.log_rows.proofs.EntryParts.{found_again}
-use Rattle.change_laws.proofs.Visiting.{made_once, retired_once}
+use Rattle.change_laws.proofs.Visiting.{retired_once}
 use Rattle.change_reader.proofs.EntryFacts.{before_it, entry_stands, with_it}
 use Rattle.change_reader.proofs.MadeRoots.{ends_in, passes}
 use Rattle.change_reader.proofs.RootFacts.{made_again}

@@ -1,4 +1,5 @@
 pub mod RowSearches
+pub mod IdSearches
 pub mod EntryFacts
 pub mod MadeRoots
 pub mod RootFacts

@@ -1,7 +1,7 @@
 -- What an entry links to roots: they were there before it, and no older entry retired one.
-use Rattle.std.proofs.Common.{◌≡◌, ℕ, zero, suc, ◌+◌, ◌-◌, ◌<◌, ◌≤◌, Bool, true, false, cond, List, [], ◌∷◌, ◌++◌, ◌||◌, eqb, length, map, take, drop, get_or, Some, refl, sym, ◌∙◌, ap, ap₂, subst, inl, inr, arith, append-nil, append_assoc}
+use Rattle.std.proofs.Common.{◌≡◌, ℕ, zero, suc, ◌+◌, ◌-◌, ◌<◌, ◌≤◌, Bool, true, false, cond, List, [], ◌∷◌, ◌++◌, ◌||◌, eqb, length, map, take, drop, get_or, refl, sym, ◌∙◌, ap, subst, inl, inr, arith, append-nil, append_assoc}
 use Rattle.std.specs.List.{AllByRecursion, filter, list_any}
-use Rattle.std.proofs.lemmas.Bool.{cond-true, cond-false, false_from_ne_true}
+use Rattle.std.proofs.lemmas.Bool.{false_from_ne_true}
 use Rattle.std.proofs.Math.Seq.{drop-length}
 use Rattle.op_model.specs.declared.base.Dataset.{Dataset}
 use Rattle.op_model.specs.declared.base.Base.{Base}
@@ -11,18 +11,16 @@ use Rattle.graph_model.specs.Lists.{has}
 use Rattle.graph_model.proofs.ListLemmas.{filter_only, has_cases, has_head, has_none, has_tail, same_bool}
 use Rattle.op_model.specs.Labels.{root}
 use Rattle.op_model.specs.Legal.{Legal}
-use Rattle.op_model.specs.Operations.{ascending, ends, entry_at, first_entry, put_id}
+use Rattle.op_model.specs.Operations.{ascending, ends, first_entry, put_id}
 use Rattle.op_model.specs.Transcript.{log_at}
-use Rattle.op_model.specs.Valid.{IsDataset, IsBase}
 use Rattle.op_model.proofs.LegalLemmas.{ascending_has}
 use Rattle.op_model.proofs.LinkLemmas.{append_cases, append_left, append_right}
 use Rattle.op_model.proofs.LocalLemmas.{end_retired}
 use Rattle.op_model.proofs.MadeLemmas.{ascending_only, map_only}
-use Rattle.record_rows.specs.Readings.{Image, ParentImage}
-use Rattle.record_rows.proofs.ImageFacts.{parent_image}
+use Rattle.record_rows.specs.Readings.{ParentImage}
 use Rattle.change_laws.specs.Visits.{linked_by}
 use Rattle.change_laws.proofs.NearEnds.{known_end}
-use Rattle.change_reader.specs.Walks.{AreUnretired, IsChangedBy, IsInner, IsUnretired, SameRoots, linked_end}
+use Rattle.change_reader.specs.Walks.{AreUnretired, IsUnretired, SameRoots, linked_end}
 use Rattle.change_reader.proofs.EntryPlaces.{At, at_entry, retired_only}
 use Rattle.change_reader.proofs.RootFacts.{is_made}
 
@@ -80,7 +78,6 @@ module _ (d : Dataset) (b : Base) (log : List Entry) (n : ℕ) (roots : List ℕ
       rest = filter (λ u. has roots (root d b (log_at d b log (n + 1)) u)) us
 
       go : (t : Bool) → ascending (map f (cond t (u ∷ rest) rest)) ≡ cond t (put_id (f u) (ascending (map f rest))) (ascending (map f rest))
-      unfolding ascending
       go true = refl
       go false = refl
 
@@ -132,8 +129,8 @@ take_next xs k x l e = subst (λ n. take n xs ≡ take k xs ++ x ∷ []) (add_on
     go (y ∷ ys) zero l e = ap (λ z. z ∷ []) (sym e)
     go (y ∷ ys) (suc k) l e = ap (λ zs. y ∷ zs) (go ys k (omega arith) e)
 
-pub more_roots : (roots linked : List ℕ) (k x : ℕ) → k < length linked → x ≡ get_or linked k x → {old new : List ℕ} → SameRoots old (roots ++ take k linked) → SameRoots new (x ∷ old) → SameRoots new (roots ++ take (k + 1) linked)
-more_roots roots linked k x l e {old} {new} s t r =
+pub more_roots : (roots linked : List ℕ) (k x : ℕ) → k < length linked → x ≡ get_or linked k x → (old new : List ℕ) → SameRoots old (roots ++ take k linked) → SameRoots new (x ∷ old) → SameRoots new (roots ++ take (k + 1) linked)
+more_roots roots linked k x l e old new s t r =
     t r
     ∙ (ap (λ (q : Bool). eqb x r || q) (s r)
     ∙ (turn ∙ ap (λ xs. has xs r) (append_assoc roots (take k linked) (x ∷ []) ∙ ap (λ xs. roots ++ xs) (sym (take_next linked k x l e)))))
@@ -150,8 +147,8 @@ more_roots roots linked k x l e {old} {new} s t r =
           | inr m ↦ elim (has_cases x [] r m) [ inl q ↦ subst (λ z. has (x ∷ front) z ≡ true) q (has_head x front) | inr z ↦ has_none r z ]
         ])
 
-pub all_roots : (roots linked : List ℕ) (k : ℕ) → (k < length linked → ⊥) → {new : List ℕ} → SameRoots new (roots ++ take k linked) → SameRoots new (roots ++ linked)
-all_roots roots linked k l s r = s r ∙ ap (λ xs. has (roots ++ xs) r) (take_all linked k (omega arith))
+pub all_roots : (roots linked : List ℕ) (k : ℕ) → length linked ≤ k → (new : List ℕ) → SameRoots new (roots ++ take k linked) → SameRoots new (roots ++ linked)
+all_roots roots linked k l new s r = s r ∙ ap (λ xs. has (roots ++ xs) r) (take_all linked k l)
   where
     take_all : (xs : List ℕ) (n : ℕ) → length xs ≤ n → take n xs ≡ xs
     take_all [] zero m = refl
@@ -160,8 +157,8 @@ all_roots roots linked k l s r = s r ∙ ap (λ xs. has (roots ++ xs) r) (take_a
     take_all (x ∷ xs) (suc n) m = ap (λ ys. x ∷ ys) (take_all xs n (omega arith))
 
 -- in what order they were put is no matter
-pub same_linked : (roots linked : List ℕ) {ids new : List ℕ} → ids ≡ ascending linked → SameRoots new (roots ++ ids) → SameRoots new (roots ++ linked)
-same_linked roots linked {ids} {new} q s r =
+pub same_linked : (roots linked ids new : List ℕ) → ids ≡ ascending linked → SameRoots new (roots ++ ids) → SameRoots new (roots ++ linked)
+same_linked roots linked ids new q s r =
     s r
     ∙ (ap (λ xs. has (roots ++ xs) r) q
     ∙ same_bool (has (roots ++ ascending linked) r) (has (roots ++ linked) r)

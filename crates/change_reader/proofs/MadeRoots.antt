@@ -97,7 +97,7 @@ module _ (d : Dataset) (b : Base) (valid : IsDataset d) (base : IsBase d b) wher
     pub fresh : is_new d b (timed.entry ∷ timed.older) (top d) timed.born.supervoxel ≡ true
     pub holds : n.leaves ≡ component d b (timed.entry ∷ timed.older) (top d) timed.born.supervoxel
 
-  root_by : (log : List Entry) → Legal d b log → (r p : ℕ) (n : Node) → (parts_of d.layout r).layer ≡ top d → HoldsNode d b log p n → n.id ≡ r → RootBy log r n
+  pub root_by : (log : List Entry) → Legal d b log → (r p : ℕ) (n : Node) → (parts_of d.layout r).layer ≡ top d → HoldsNode d b log p n → n.id ≡ r → RootBy log r n
   unfolding root
   root_by log legal r p n i h e =
       let t = node_timed log legal p n h in

@@ -1,5 +1,5 @@
 -- When a root is made and retired: once each, by an entry of its number, and not before it was made.
-use Rattle.std.proofs.Common.{◌≡◌, ℕ, ◌+◌, ◌<◌, Bool, true, false, List, [], ◌∷◌, ◌++◌, refl, sym, ◌∙◌, ap, subst}
+use Rattle.std.proofs.Common.{◌≡◌, ℕ, ◌+◌, Bool, true, false, List, [], ◌∷◌, ◌++◌, refl, sym, ◌∙◌, ap, subst}
 use Rattle.std.specs.List.{list_any}
 use Rattle.std.proofs.lemmas.Bool.{or_left, or_right}
 use Rattle.op_model.specs.declared.base.Dataset.{Dataset}
@@ -8,7 +8,7 @@ use Rattle.op_model.specs.declared.entry.Entry.{Entry}
 use Rattle.graph_model.specs.Lists.{has}
 use Rattle.graph_model.proofs.ListLemmas.{has_none}
 use Rattle.op_model.specs.Chunks.{chunk, top}
-use Rattle.op_model.specs.Labels.{component, is_new, node, root}
+use Rattle.op_model.specs.Labels.{component, is_empty, is_new, node, root}
 use Rattle.op_model.specs.Legal.{Legal}
 use Rattle.op_model.specs.Operations.{first_entry}
 use Rattle.op_model.specs.Valid.{IsDataset, IsBase}
@@ -48,7 +48,7 @@ module _ (d : Dataset) (b : Base) (valid : IsDataset d) (base : IsBase d b) wher
 
   -- a supervoxel's root was made by an entry of the log
   pub is_made : (log : List Entry) (u : ℕ) → Legal d b log → has b.supervoxels u ≡ true → list_any (λ e. has e.made (root d b log u)) log ≡ true
-  unfolding root node
+  unfolding root node is_new is_empty
   is_made [] u legal h = absurd legal
   is_made (e ∷ []) u legal h = or_left (has e.made (root d b (e ∷ []) u)) _ (made_here d b valid base e [] legal u h refl)
   is_made (e ∷ f ∷ log) u legal h = go (is_new d b (e ∷ f ∷ log) (top d) u) refl (is_made (f ∷ log) u legal.1 h)

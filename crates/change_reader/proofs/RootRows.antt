@@ -1,5 +1,5 @@
 -- The record of a root tells which entry made it.
-use Rattle.std.proofs.Common.{◌≡◌, ℕ, ◌+◌, ◌<◌, Bool, true, false, List, ◌∷◌, ◌++◌, length, Option, Some, None, eqb, refl, sym, ◌∙◌, ap, subst, eq-eqb, arith}
+use Rattle.std.proofs.Common.{◌≡◌, ℕ, ◌<◌, true, List, ◌∷◌, Option, Some, None, eqb, refl, sym, ◌∙◌, ap, subst, eq-eqb}
 use Rattle.std.specs.Option.{IsSome}
 use Rattle.std.proofs.lemmas.Bool.{eqb-true, false≢true}
 use Rattle.node_ids.specs.Ids.{parts_of}

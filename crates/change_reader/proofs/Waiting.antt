@@ -1,5 +1,5 @@
 -- Which entries wait: those that made or retired one of the roots.
-use Rattle.std.proofs.Common.{◌≡◌, ℕ, zero, suc, ◌+◌, ◌<◌, ◌≤◌, Bool, true, false, ◌||◌, eqb, ltb, cond, List, [], ◌∷◌, ◌++◌, length, Option, Some, None, Result, Ok, Err, IfOk, refl, sym, ◌∙◌, ap, ap₂, subst, inl, inr, eq-eqb, arith, append-nil}
+use Rattle.std.proofs.Common.{◌≡◌, ℕ, ◌+◌, ◌<◌, Bool, true, false, ◌||◌, eqb, ltb, List, [], ◌∷◌, length, Option, Some, None, Result, Ok, Err, IfOk, refl, sym, ◌∙◌, ap, ap₂, subst, inl, inr, eq-eqb, arith}
 use Rattle.std.specs.List.{AllByRecursion, filter_map, slice_get}
 use Rattle.std.proofs.lemmas.Bool.{cond-true, cond-false, cases_Bool, eqb-true, false_from_ne_true, lt-ltb, ltb-true, or_cases, or_left, or_right, false≢true, ne_eqb}
 use Rattle.std.proofs.lemmas.Option.{same_Some}
@@ -9,9 +9,7 @@ use Rattle.op_model.specs.declared.entry.Entry.{Entry}
 use Rattle.graph_model.specs.Lists.{has}
 use Rattle.graph_model.proofs.ListLemmas.{has_cases, has_head, has_none, has_tail, same_bool}
 use Rattle.op_model.specs.Answers.{leaves, leaves_at, share}
-use Rattle.op_model.specs.Legal.{Legal}
 use Rattle.op_model.specs.Operations.{ascending, entry_at, put_id}
-use Rattle.op_model.specs.Transcript.{log_at}
 use Rattle.op_model.specs.Valid.{IsAscending}
 use Rattle.op_model.proofs.LegalLemmas.{all_has, ascending_has}
 use Rattle.op_model.proofs.LockLemmas.{ascending_ascends}
@@ -26,7 +24,7 @@ use Rattle.change_laws.proofs.Ancestry.{shared, share_only}
 use Rattle.change_laws.proofs.Visiting.{meets_same}
 use Rattle.change_reader.specs.Walks.{IsMadeBy, IsMadeRoot, IsUnretired, Waits}
 use Rattle.change_reader.proofs.EndRows.{ended, first_end, names, rows_end}
-use Rattle.change_reader.proofs.EntryPlaces.{At, at_entry}
+use Rattle.change_reader.proofs.EntryPlaces.{at_entry}
 use Rattle.change_reader.proofs.MadeRoots.{found_made}
 use Rattle.change_reader.proofs.RootRows.{made_by_row, root_top, row_by, row_maker}
 
@@ -88,6 +86,10 @@ pub meets_none : (e : Entry) → meets e [] ≡ false
 unfolding meets
 meets_none e = ap₂ (λ (p q : Bool). p || q) (share_none e.made) (share_none e.retired)
 
+or_false : (x : Bool) → (x || false) ≡ x
+or_false true = refl
+or_false false = refl
+
 eqb_turn : (x y : ℕ) → eqb x y ≡ eqb y x
 eqb_turn x y = same_bool (eqb x y) (eqb y x) (λ h. eq-eqb y x (sym (eqb-true x y h))) (λ h. eq-eqb x y (sym (eqb-true y x h)))
 
@@ -103,19 +105,15 @@ module _ (d : Dataset) (b : Base) (log : List Entry) (words : List ℕ) (r n : �
         ∙ sym (meets_same e (put_id r roots) (r ∷ roots) (put_has r roots a)
         ∙ (meets_more e r roots ∙ ap (λ (t : Bool). t || meets e roots) (ap (λ (t : Bool). has e.made r || t) (u.kept k e h l) ∙ or_false (has e.made r)))));
   }
-    where
-      or_false : (x : Bool) → (x || false) ≡ x
-      or_false true = refl
-      or_false false = refl
 
 -- the number that a root's record tells, and the one of the entry that retired it
-with_end : Option ℕ → List ℕ → List ℕ
+unfoldable pub with_end : Option ℕ → List ℕ → List ℕ
 with_end None xs = xs
 with_end (Some k) xs = put_id k xs
 
 module _ (d : Dataset) (b : Base) (log : List Entry) (words : List ℕ) (r prefix : ℕ) (i : IsMadeRoot d b log words r prefix) (p : ℕ) (n : Node) (h : HoldsNode d b log p n) (q : n.id ≡ r) where
-  unfolding leaves
   ended_all : (m : ℕ) (e : Entry) → entry_at log m ≡ Some e → has e.retired r ≡ names (first_end n log) m
+  unfolding leaves
   ended_all m e at =
       let t = row_by d b log words r prefix i p n h q in
       let w = row_maker d b log words r prefix i n t in
@@ -129,18 +127,17 @@ module _ (d : Dataset) (b : Base) (log : List Entry) (words : List ℕ) (r prefi
 
   -- of the entry that retired it is told exactly
   ended_told : (o : Option ℕ) → o ≡ ended_below (rows_of d b log) n prefix → (m : ℕ) (e : Entry) → entry_at log m ≡ Some e → m < prefix → has e.retired r ≡ names o m
-  unfolding ended_below if_below
+  unfolding ended_below if_below names
   ended_told o f m e at l = ended_all m e at ∙ sym (ap (λ x. names x m) (f ∙ ap (if_below prefix) (rows_end d b n log)) ∙ go (first_end n log))
     where
       go : (x : Option ℕ) → names (if_below prefix x) m ≡ names x m
-      unfolding names if_below
       go None = refl
       go (Some k) = elim (cases_Bool (ltb k prefix)) [
         | inl t ↦ ap (λ x. names x m) (cond-true (ltb k prefix) (Some k) None t)
         | inr t ↦ (
-          let no : eqb k m ≡ false = ne_eqb k m (λ s. false≢true (sym t ∙ lt-ltb k prefix (let z : k ≡ m = s in omega (arith, z, l)))) in
-          ap (λ x. names x m) (cond-false (ltb k prefix) (Some k) None t) ∙ sym no
-        )
+            let no : eqb k m ≡ false = ne_eqb k m (λ s. false≢true (sym t ∙ lt-ltb k prefix (let z : k ≡ m = s in omega (arith, z, l)))) in
+            ap (λ x. names x m) (cond-false (ltb k prefix) (Some k) None t) ∙ sym no
+            )
       ]
 
   ended_few : (k : ℕ) → Some k ≡ ended_below (rows_of d b log) n prefix → k < prefix
@@ -148,7 +145,6 @@ module _ (d : Dataset) (b : Base) (log : List Entry) (words : List ℕ) (r prefi
   ended_few k f = go (slice_get (filter_map (retired_by n) (rows_of d b log)) 0) f
     where
       go : (x : Option ℕ) → Some k ≡ if_below prefix x → k < prefix
-      unfolding if_below
       go None g = cc
       go (Some j) g = elim (cases_Bool (ltb j prefix)) [
         | inl t ↦ (let s : k ≡ j = same_Some _ _ (g ∙ cond-true (ltb j prefix) (Some j) None t) in let m : j < prefix = ltb-true j prefix t in omega arith)
@@ -157,7 +153,7 @@ module _ (d : Dataset) (b : Base) (log : List Entry) (words : List ℕ) (r prefi
 
   -- at first just the entries wait that made or retired the root
   pub first_waits : (o : Option ℕ) → o ≡ ended_below (rows_of d b log) n prefix → Waits log prefix (r ∷ []) (with_end o (n.made ∷ []))
-  unfolding with_end
+  unfolding with_end names
   first_waits o f = go o f
     where
       m : IsMadeBy log r prefix n.made
@@ -169,13 +165,8 @@ module _ (d : Dataset) (b : Base) (log : List Entry) (words : List ℕ) (r prefi
           ∙ (ap (λ (t : Bool). (has e.made r || has e.retired r) || t) (meets_none e)
           ∙ (or_false (has e.made r || has e.retired r)
           ∙ ap₂ (λ (x y : Bool). x || y) (m.1 k e at ∙ eqb_turn k n.made) (ended_told o f k e at l)))
-        where
-          or_false : (x : Bool) → (x || false) ≡ x
-          or_false true = refl
-          or_false false = refl
 
       go : (o : Option ℕ) → o ≡ ended_below (rows_of d b log) n prefix → Waits log prefix (r ∷ []) (with_end o (n.made ∷ []))
-      unfolding names
       go None f = record { order = tt; few = (m.0, tt); exact = λ k e at l. sym (met None f k e at l) }
       go (Some j) f = record {
         order = put_ascends j (n.made ∷ []) tt;

@@ -1,15 +1,17 @@
 -- The walk back, from one entry that it meets to the next.
-use Rattle.std.proofs.Common.{◌≡◌, ℕ, zero, suc, ◌+◌, ◌-◌, ◌<◌, ◌≤◌, Bool, true, false, cond, ◌||◌, eqb, List, [], ◌∷◌, ◌++◌, length, map, drop, reverse, Some, None, refl, sym, ◌∙◌, ap, ap₂, subst, inl, inr, arith, append-nil, append_assoc}
+use Rattle.std.proofs.Common.{◌≡◌, ℕ, zero, suc, ◌+◌, ◌-◌, ◌<◌, ◌≤◌, true, false, List, [], ◌∷◌, ◌++◌, length, map, drop, reverse, Some, refl, sym, ◌∙◌, ap, ap₂, subst, inl, inr, arith, append-nil, append_assoc}
 use Rattle.std.specs.List.{AllByRecursion}
 use Rattle.std.proofs.Math.Seq.{drop-length}
-use Rattle.std.proofs.lemmas.Bool.{cases_lt, cond-true, cond-false, contra, eqb-true, false_from_ne_true, ne_eqb}
+use Rattle.std.proofs.lemmas.Bool.{cond-true, false_from_ne_true}
 use Rattle.op_model.specs.declared.base.Dataset.{Dataset}
 use Rattle.op_model.specs.declared.base.Base.{Base}
 use Rattle.op_model.specs.declared.entry.Entry.{Entry}
 use Rattle.op_model.specs.declared.reply.Summary.{Summary}
 use Rattle.graph_model.specs.Lists.{has}
-use Rattle.graph_model.proofs.ListLemmas.{has_cases, has_head, has_none, has_tail, same_bool}
+use Rattle.graph_model.proofs.ListLemmas.{has_cases, has_head, has_none, same_bool}
 use Rattle.op_model.specs.Answers.{ancestors, changes, summary}
+use Rattle.log_rows.specs.declared.records.Head.{Head}
+use Rattle.log_rows.specs.Heads.{head_of}
 use Rattle.op_model.specs.Legal.{Legal}
 use Rattle.op_model.specs.Operations.{entry_at}
 use Rattle.op_model.specs.Transcript.{log_at}
@@ -20,10 +22,10 @@ use Rattle.layer_laws.proofs.OrderLemmas.{ascending_above, ascending_tail}
 use Rattle.change_laws.specs.Visits.{linked_by, meets, visits}
 use Rattle.change_laws.proofs.Visiting.{skipped, visited, visits_alike}
 use Rattle.change_reader.specs.Walks.{SameRoots, Waits}
-use Rattle.change_reader.proofs.EntryPlaces.{At, at_entry, at_number}
+use Rattle.change_reader.proofs.EntryPlaces.{at_entry, at_number}
 
 -- more than each number that waits
-pub limit : List ℕ → ℕ
+unfoldable pub limit : List ℕ → ℕ
 limit [] = 0
 limit (n ∷ []) = n + 1
 limit (n ∷ m ∷ ms) = limit (m ∷ ms)
@@ -39,6 +41,10 @@ unfolding limit
 limit_few n [] a = omega arith
 limit_few n (m ∷ []) a = let l = a.0 in omega arith
 limit_few n (m ∷ k ∷ ms) a = limit_few n (k ∷ ms) a.1
+
+none_left : (ms : List ℕ) → length ms ≡ 0 → ms ≡ []
+none_left [] e = refl
+none_left (m ∷ ms) e = absurd (omega arith)
 
 -- an ascending list without its last number
 module _ (n : ℕ) where
@@ -146,7 +152,7 @@ module _ (d : Dataset) (b : Base) (valid : IsDataset d) (base : IsBase d b) (log
       let linked : List ℕ = linked_by d b e (log_at d b log n) roots in
       let skip : visits d b (log_at d b log w.below) roots ≡ visits d b (log_at d b log (n + 1)) roots =
       skip_to roots (n + 1) w.below (omega arith) high (λ k g c a z. none_between log w.below roots rest n ws k g c (omega arith) z) in
-      let open : visits d b (log_at d b log (n + 1)) roots ≡ e ∷ visits d b (log_at d b log n) (roots ++ linked) =
+      let opened : visits d b (log_at d b log (n + 1)) roots ≡ e ∷ visits d b (log_at d b log n) (roots ++ linked) =
       ap (λ l. visits d b l roots) (at.with_it ∙ ap (λ l. e ∷ l) (sym at.before))
       ∙ cond-true (meets e roots) (e ∷ visits d b (log_at d b log n) (roots ++ linked)) (visits d b (log_at d b log n) (roots ++ linked)) met in
       let alike : visits d b (log_at d b log n) (roots ++ linked) ≡ visits d b (log_at d b log n) new = visits_alike d b (log_at d b log n) (roots ++ linked) new (λ x. sym (same x)) in
@@ -155,18 +161,18 @@ module _ (d : Dataset) (b : Base) (valid : IsDataset d) (base : IsBase d b) (log
         high = omega arith;
         told =
             w.told
-            ∙ (ap (λ es. found ++ map summary es) (skip ∙ (open ∙ ap (λ es. e ∷ es) alike))
+            ∙ (ap (λ es. found ++ map summary es) (skip ∙ (opened ∙ ap (λ es. e ∷ es) alike))
             ∙ (sym (append_assoc found (summary e ∷ []) (map summary (visits d b (log_at d b log n) new)))
             ∙ ap (λ xs. xs ++ map summary (visits d b (log_at d b log n) new)) (sym f)));
         waits = m;
       }
 
   -- where none waits, it has told of all
-  pub walk_ends : (prefix r : ℕ) (waiting roots : List ℕ) (found : List Summary) → waiting ≡ [] → Walked prefix r waiting roots found → found ≡ map summary (visits d b (log_at d b log prefix) (r ∷ []))
+  pub walk_ends : (prefix r : ℕ) (waiting roots : List ℕ) (found : List Summary) → length waiting ≡ 0 → Walked prefix r waiting roots found → found ≡ map summary (visits d b (log_at d b log prefix) (r ∷ []))
   unfolding visits log_at
   walk_ends prefix r waiting roots found q w =
       let high : w.below ≤ length log = w.high in
-      let ws : Waits log w.below roots [] = subst (Waits log w.below roots) q w.waits in
+      let ws : Waits log w.below roots [] = subst (Waits log w.below roots) (none_left waiting q) w.waits in
       let skip : visits d b (log_at d b log w.below) roots ≡ visits d b (log_at d b log 0) roots =
       skip_to roots 0 w.below (omega arith) high (λ m e h a z. sym (ws.exact m e h z)) in
       let zero_is : length log - 0 ≡ length log = omega arith in
@@ -183,3 +189,9 @@ module _ (d : Dataset) (b : Base) (valid : IsDataset d) (base : IsBase d b) (log
 -- reversed it is what the definitions answer
 pub walk_answers : (d : Dataset) (b : Base) → IsDataset d → IsBase d b → (log : List Entry) (r : ℕ) → Legal d b log → (list found : List Summary) → list ≡ reverse found → found ≡ map summary (visits d b log (r ∷ [])) → list ≡ changes d b log (ancestors d b log (r ∷ []))
 walk_answers d b valid base log r legal list found q f = q ∙ (ap reverse f ∙ sym (visited d b valid base log (r ∷ []) legal))
+
+-- an entry as a list of changes shows it, by its head
+pub summary_by : (n : ℕ) (h : Head) (e : Entry) → e.number ≡ n → h ≡ head_of e → let s : Summary = record { op = n; at = h.at; kind = h.kind } in s ≡ summary e
+unfolding summary head_of
+summary_by n h e q s =
+    ap (λ k. record { op = k; at = h.at; kind = h.kind }) (sym q) ∙ ap (λ (g : Head). record { op = e.number; at = g.at; kind = g.kind }) s

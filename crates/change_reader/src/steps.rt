@@ -19,7 +19,7 @@ use crate::numbers::{has_root, put_number};
 use log_rows::all_changed;
 use node_ids::NodeId;
 use node_reader::{put, root_of};
-use op_model::{Changed, ChangedPairs, Ids};
+use op_model::{Changed, ChangedPairs};
 use pcg_base::{NoMemory, Words};
 use std::alloc::Global;
 
@@ -44,7 +44,7 @@ pub fn go_back<W: Words>(
     ensures waits { (d : Dataset) (b : Base) (log : List Entry) → Image d b log (W.words w.old) → n < length log → Waits log n roots.old.items waiting.old.items → OnOk result (Waits log n roots.new.items waiting.new.items) }
 {
     let linked = linked_to(alloc, w, roots.as_slice(), n)?;
-    add_all(w, waiting, roots, linked.list.as_slice())?;
+    add_all(w, waiting, roots, linked.as_slice())?;
     Ok(())
 }
 
@@ -54,16 +54,14 @@ fn linked_to<W: Words>(
     w: &mut W,
     roots: &[NodeId],
     n: u32,
-) -> Result<Ids, NoMemory>
+) -> Result<Vec<NodeId>, NoMemory>
     requires entry { (d : Dataset) × (b : Base) × (log : List Entry) × Image d b log (W.words w.old) × (n < length log) }
     requires order { IsAscending roots.now }
     ensures same { w.new ≡ w.old }
-    ensures is { (d : Dataset) (b : Base) (log : List Entry) (e : Entry) → Image d b log (W.words w.old) → entry_at log n ≡ Some e → IfOk result (λ ids. ids ≡ ascending (linked_by d b e (log_at d b log n) roots.now)) }
+    ensures is { (d : Dataset) (b : Base) (log : List Entry) (e : Entry) → Image d b log (W.words w.old) → entry_at log n ≡ Some e → IfOk result (λ v. v.items ≡ ascending (linked_by d b e (log_at d b log n) roots.now)) }
 {
     if n == 0 {
-        return Ok(Ids {
-            list: Vec::new(alloc),
-        });
+        return Ok(Vec::new(alloc));
     }
     let changed = all_changed(alloc, w, n)?;
     before_changes(alloc, w, roots, &changed, n)
@@ -77,11 +75,11 @@ fn before_changes<W: Words>(
     roots: &[NodeId],
     changed: &ChangedPairs,
     n: u32,
-) -> Result<Ids, NoMemory>
+) -> Result<Vec<NodeId>, NoMemory>
     requires entry { (d : Dataset) × (b : Base) × (log : List Entry) × (e : Entry) × IsInner d b log (W.words w.old) n × IsChangedBy d b log (W.words w.old) n e changed.now }
     requires order { IsAscending roots.now }
     ensures same { w.new ≡ w.old }
-    ensures is { (d : Dataset) (b : Base) (log : List Entry) (e : Entry) → IsInner d b log (W.words w.old) n → IsChangedBy d b log (W.words w.old) n e changed.now → IfOk result (λ ids. ids ≡ ascending (linked_by d b e (log_at d b log n) roots.now)) }
+    ensures is { (d : Dataset) (b : Base) (log : List Entry) (e : Entry) → IsInner d b log (W.words w.old) n → IsChangedBy d b log (W.words w.old) n e changed.now → IfOk result (λ v. v.items ≡ ascending (linked_by d b e (log_at d b log n) roots.now)) }
 {
     let mut list = Vec::new(alloc);
     let pairs = changed.list.as_slice();
@@ -89,7 +87,7 @@ fn before_changes<W: Words>(
         let last = pairs.len() - done - 1;
         add_pair(w, roots, &mut list, pairs[last], n)?;
     }
-    Ok(Ids { list })
+    Ok(list)
 }
 
 /// Puts the roots of both ends of a pair before entry `n` to those of others, that of the greater
@@ -106,8 +104,9 @@ fn add_pair<W: Words>(
     ensures same { w.new ≡ w.old }
     ensures is { (d : Dataset) (b : Base) (log : List Entry) → IsInner d b log (W.words w.old) n → has b.supervoxels changed.pair.a ≡ true → has b.supervoxels changed.pair.b ≡ true → OnOk result (list.new.items ≡ linked_end d b log n roots.now changed.pair.a (linked_end d b log n roots.now changed.pair.b list.old.items)) }
 {
-    add_end(w, roots, list, changed.pair.b, n)?;
-    add_end(w, roots, list, changed.pair.a, n)?;
+    let pair = changed.pair;
+    add_end(w, roots, list, pair.b, n)?;
+    add_end(w, roots, list, pair.a, n)?;
     Ok(())
 }
 

@@ -83,10 +83,10 @@ fn summary_of<W: Words>(w: &mut W, n: u32) -> Summary
     ensures same { w.new ≡ w.old }
     ensures is { ForEntry ParentImage (W.words w.old) n (λ d b log e. result ≡ summary e) }
 {
-    let head = head(w, n);
+    let told = head(w, n);
     Summary {
         op: n,
-        at: head.at,
-        kind: head.kind,
+        at: told.at,
+        kind: told.kind,
     }
 }

@@ -1,7 +1,9 @@
 //! Whole replies of the sample.
 
 use crate::names::*;
-use crate::reads::{has_changes, has_leaves, has_path, has_root, leaves_are_refused, root_is_refused};
+use crate::reads::{
+    has_changes, has_leaves, has_path, has_root, leaves_are_refused, root_is_refused,
+};
 use crate::samples::regained;
 use node_ids::NodeId;
 use op_model::{Kind, PathIds, Refusal, Summary};

@@ -21,7 +21,7 @@ loop-k-preserved g c =
     record {
       same = c.add_root.ensures.same ∙ i.same;
       order = c.in_ok-add_root.ensures.order;
-      roots = more_roots c.args.roots.now.items c.args.linked.now c.loop-k.k c.index-linked-k.result c.loop-k-test.true c.index-linked-k.is i.roots c.in_ok-add_root.ensures.roots;
+      roots = more_roots c.args.roots.now.items c.args.linked.now c.loop-k.k c.index-linked-k.result c.loop-k-test.true c.index-linked-k.is _ _ i.roots c.in_ok-add_root.ensures.roots;
       waits = λ d b log n a w.
           c.in_ok-add_root.ensures.waits d b log n
           (subst (λ w. IsUnretired d b log (g.W.Words.words w) c.index-linked-k.result n) (sym i.same) (root_at d b log _ n c.args.linked.now c.loop-k.k c.index-linked-k.result c.loop-k-test.true c.index-linked-k.is a))
@@ -29,4 +29,4 @@ loop-k-preserved g c =
     }
 
 pub returns-clause-roots : goal.returns-clause-roots
-returns-clause-roots g c = all_roots c.args.roots.now.items c.args.linked.now c.loop-k.k c.loop-k-test.false c.loop-k.invariant.roots
+returns-clause-roots g c = all_roots c.args.roots.now.items c.args.linked.now c.loop-k.k c.loop-k-test.false _ c.loop-k.invariant.roots

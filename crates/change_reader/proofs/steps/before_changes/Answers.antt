@@ -1,5 +1,6 @@
-use Rattle.std.proofs.Common.{◌≡◌, ◌-◌, ◌<◌, ◌∙◌, ℕ, length, get_or, List, refl, sym, ap, subst, arith}
+use Rattle.std.proofs.Common.{◌≡◌, ◌-◌, ◌<◌, ◌≤◌, ◌∙◌, length, get_or, List, refl, sym, ap, subst, arith}
 use Rattle.op_model.specs.declared.entry.Changed.{Changed}
+use Rattle.op_model.specs.Operations.{ends}
 use Rattle.change_reader.specs.Walks.{IsInner, linked_end}
 use Rattle.change_reader.proofs.EntryFacts.{known_ends}
 use Rattle.change_reader.proofs.EntryPlaces.{at_entry}
@@ -42,3 +43,12 @@ loop-done-preserved g c =
           ∙ (ap (λ xs. linked_end d b log c.args.n c.args.roots.now x.pair.a (linked_end d b log c.args.n c.args.roots.now x.pair.b xs)) (i.shown d b log e r k)
           ∙ (sym (linked_pair d b log c.args.n c.args.roots.now x _) ∙ ap (linked_of d b log c.args.n c.args.roots.now) (sym more)));
     }
+
+pub returns-clause-is : goal.returns-clause-is
+returns-clause-is g c d b log e i k =
+    let cs : List Changed = c.args.changed.now in
+    let same : c.as_slice-pairs.result.now ≡ cs = c.as_slice-pairs.ensures.value ∙ c.changed.view_is in
+    let all : length cs ≤ c.loop-done.done = subst (λ xs. length xs ≤ c.loop-done.done) same c.loop-done-test.false in
+    c.loop-done.invariant.shown d b log e i k
+    ∙ (ap (λ xs. linked_of d b log c.args.n c.args.roots.now (ends xs)) (all_left cs c.loop-done.done all ∙ k.pairs)
+    ∙ linked_all d b log c.args.n c.args.roots.now e (at_entry d b log c.args.n e i.image.legal k.entry))

@@ -1,12 +1,10 @@
-use Rattle.std.proofs.Common.{◌≡◌, ◌∙◌, [], Some, ap, sym, subst, arith}
-use Rattle.std.specs.Prelude.{IfOk}
+use Rattle.std.proofs.Common.{◌≡◌, ◌∙◌, [], Some, sym, subst}
 use Rattle.op_model.specs.Operations.{ascending, entry_at}
 use Rattle.op_model.specs.Transcript.{log_at}
 use Rattle.record_rows.specs.Readings.{Image}
 use Rattle.record_rows.proofs.ImageFacts.{parent_image}
 use Rattle.change_laws.specs.Visits.{linked_by}
-use Rattle.change_reader.specs.Walks.{IsChangedBy, IsInner}
-use Rattle.change_reader.proofs.EntryPlaces.{At, at_entry, at_number}
+use Rattle.change_reader.proofs.EntryPlaces.{at_entry, at_number}
 use Rattle.change_reader.proofs.Linked.{first_links}
 use Rattle.change_reader.proofs.EntryFacts.{is_inner}
 use Rattle.change_reader.proofs.steps.linked_to.Goals as goal
@@ -22,21 +20,20 @@ all_changed-requires g c = let r = c.requires.entry in record { entry = (r.0, r.
 pub before_changes-requires-clause-entry : goal.before_changes-requires-clause-entry
 before_changes-requires-clause-entry g c =
     let r = c.requires.entry in
-    let image = subst (λ w. Image r.0 r.1 r.2 (g.W.Words.words w)) (sym c.in_ok-all_changed.ensures.same) r.3 in
-    let x = at_number r.0 r.1 r.2 c.args.n r.3.legal r.4 in
-    (
+    let image = subst (λ w. Image r.0 r.1 r.2 (g.W.Words.words w)) (sym c.all_changed.ensures.same) r.3 in
+    let x = at_number r.0 r.1 r.2 c.args.n r.3.legal r.4 in (
       r.0,
       r.1,
       r.2,
       x.0,
       is_inner r.0 r.1 r.2 _ c.args.n image c.if-n-eq0.false r.4,
-      record { image = parent_image r.0 r.1 r.2 _ image; entry = x.1.found; pairs = c.in_ok-all_changed.ensures.is r.0 r.1 r.2 x.0 r.3 x.1.found },
+      record { image = parent_image r.0 r.1 r.2 _ image; entry = x.1.found; pairs = c.in_ok-changed.ensures.is r.0 r.1 r.2 x.0 r.3 x.1.found },
     )
 
 pub returns-clause-is : goal.returns-clause-is
 returns-clause-is g c d b log e i h =
-    let image = subst (λ w. Image d b log (g.W.Words.words w)) (sym c.in_ok-all_changed.ensures.same) i in
+    let image = subst (λ w. Image d b log (g.W.Words.words w)) (sym c.all_changed.ensures.same) i in
     let at = at_entry d b log c.args.n e i.legal h in
     c.before_changes.ensures.is d b log e
     (is_inner d b log _ c.args.n image c.if-n-eq0.false at.below)
-    (record { image = parent_image d b log _ image; entry = h; pairs = c.in_ok-all_changed.ensures.is d b log e i h })
+    (record { image = parent_image d b log _ image; entry = h; pairs = c.in_ok-changed.ensures.is d b log e i h })

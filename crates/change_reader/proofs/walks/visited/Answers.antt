@@ -1,11 +1,10 @@
-use Rattle.std.proofs.Common.{◌≡◌, ◌∙◌, ◌∷◌, [], ap, sym, subst, refl}
+use Rattle.std.proofs.Common.{◌∙◌, ap, sym, subst}
 use Rattle.op_model.specs.Operations.{put_id}
 use Rattle.op_model.specs.Valid.{IsAscending}
 use Rattle.record_rows.specs.Readings.{Image, ParentImage}
 use Rattle.record_rows.proofs.ImageFacts.{parent_image}
-use Rattle.change_reader.specs.Walks.{IsMadeRoot, Waits}
 use Rattle.change_reader.proofs.EntryPlaces.{at_number}
-use Rattle.change_reader.proofs.WalkSteps.{Walked, limit, others, popped, walk_ends, walk_falls, walk_goes, walk_starts}
+use Rattle.change_reader.proofs.WalkSteps.{others, popped, walk_ends, walk_falls, walk_goes, walk_starts}
 use Rattle.change_reader.proofs.walks.visited.Goals as goal
 
 pub own_entries-requires : goal.own_entries-requires
@@ -16,9 +15,9 @@ unfolding put_id
 loop-n-init g c =
     let roots = c.in_ok-put.ensures ∙ ap (put_id c.args.root) c.new-roots.ensures.items in
     record {
-      same = c.in_ok-own_entries.ensures.same;
+      same = c.own_entries.ensures.same;
       order = subst IsAscending (sym roots) tt;
-      walked = λ d b log i m. walk_starts d b i.dataset i.base log i.legal c.args.prefix c.args.root _ _ _ m.high (c.in_ok-own_entries.ensures.is d b log m) roots c.new-list.ensures.items;
+      walked = λ d b log i m. walk_starts d b i.dataset i.base log i.legal c.args.prefix c.args.root _ _ _ m.high (c.in_ok-waiting.ensures.is d b log m) roots c.new-list.ensures.items;
     }
 
 pub add-requires : goal.add-requires
