@@ -151,12 +151,15 @@ fn asked_root<W: Words>(w: &mut W, root: NodeId, at: Option<u64>) -> Result<Aske
     ensures same { w.new ≡ w.old }
     ensures is { (d : Dataset) (b : Base) (log : List Entry) → ParentImage d b log (W.words w.old) → MatchResult result (λ a. IsAskedRoot d b log root at a.spot a.prefix) (λ r. refuse_read d b log (read.Leaves root at) ≡ Some r) }
 {
-    let prefix = match prefix_of(w, at) {
+    let count = match prefix_of(w, at) {
         Ok(prefix) => prefix,
         Err(refusal) => return Err(refusal),
     };
-    match root_of_prefix(w, root, prefix) {
-        Ok(spot) => Ok(AskedRoot { spot, prefix }),
+    match root_of_prefix(w, root, count) {
+        Ok(spot) => Ok(AskedRoot {
+            spot,
+            prefix: count,
+        }),
         Err(refusal) => Err(refusal),
     }
 }

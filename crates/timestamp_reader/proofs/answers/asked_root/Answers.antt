@@ -18,16 +18,16 @@ root_of_prefix-requires g c =
     let p = is_prefix r.0 r.1 r.2 c.args.at c.in-Ok.prefix r.3.legal (sym (c.prefix_of.ensures.is r.0 r.1 r.2 r.3) ∙ c.in-Ok.is) in
     record { readable = (r.0, r.1, r.2, record { image = image_kept g.W.Words.words r.0 r.1 r.2 c.prefix_of.ensures.same r.3; low = p.low; high = p.high }) }
 
-pub returns-in-Ok-clause-is : goal.returns-in-Ok-clause-is
-returns-in-Ok-clause-is g c d b log i =
+pub returns-in-Ok-root_of_prefix-clause-is : goal.returns-in-Ok-root_of_prefix-clause-is
+returns-in-Ok-root_of_prefix-clause-is g c d b log i =
     let p = is_prefix d b log c.args.at c.in-Ok.prefix i.legal (sym (c.prefix_of.ensures.is d b log i) ∙ c.in-Ok.is) in
-    root_asked d b log c.args.root c.args.at c.in-Ok.prefix c.in-Ok-spot.spot p
-    (subst (λ r. MatchResult r (HoldsRoot d b log (log_at d b log c.in-Ok.prefix) c.args.root) (λ e. first_of (refuse_root d b (log_at d b log c.in-Ok.prefix) c.args.root) ≡ Some e)) c.in-Ok-spot.is
+    root_asked d b log c.args.root c.args.at c.in-Ok.prefix c.in-Ok-root_of_prefix.spot p
+    (subst (λ r. MatchResult r (HoldsRoot d b log (log_at d b log c.in-Ok.prefix) c.args.root) (λ e. first_of (refuse_root d b (log_at d b log c.in-Ok.prefix) c.args.root) ≡ Some e)) c.in-Ok-root_of_prefix.is
     (c.root_of_prefix.ensures.is d b log (record { image = image_kept g.W.Words.words d b log c.prefix_of.ensures.same i; low = p.low; high = p.high })))
 
-pub returns-in-Err-refusal-clause-is : goal.returns-in-Err-refusal-clause-is
-returns-in-Err-refusal-clause-is g c d b log i =
+pub returns-in-Err-root_of_prefix-clause-is : goal.returns-in-Err-root_of_prefix-clause-is
+returns-in-Err-root_of_prefix-clause-is g c d b log i =
     let p = is_prefix d b log c.args.at c.in-Ok.prefix i.legal (sym (c.prefix_of.ensures.is d b log i) ∙ c.in-Ok.is) in
-    root_unasked d b log c.args.root c.args.at c.in-Ok.prefix c.in-Err-refusal.refusal p
-    (subst (λ r. MatchResult r (HoldsRoot d b log (log_at d b log c.in-Ok.prefix) c.args.root) (λ e. first_of (refuse_root d b (log_at d b log c.in-Ok.prefix) c.args.root) ≡ Some e)) c.in-Err-refusal.is
+    root_unasked d b log c.args.root c.args.at c.in-Ok.prefix c.in-Err-root_of_prefix.refusal p
+    (subst (λ r. MatchResult r (HoldsRoot d b log (log_at d b log c.in-Ok.prefix) c.args.root) (λ e. first_of (refuse_root d b (log_at d b log c.in-Ok.prefix) c.args.root) ≡ Some e)) c.in-Err-root_of_prefix.is
     (c.root_of_prefix.ensures.is d b log (record { image = image_kept g.W.Words.words d b log c.prefix_of.ensures.same i; low = p.low; high = p.high })))
