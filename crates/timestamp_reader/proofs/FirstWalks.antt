@@ -1,8 +1,7 @@
 -- The walk over the nodes of a chunk that the first entry made.
-use Rattle.std.proofs.Common.{◌≡◌, ℕ, zero, suc, ◌+◌, ◌-◌, ◌^◌, ◌<◌, Bool, true, false, cond, ◌&&◌, eqb, List, [], ◌∷◌, ◌++◌, length, map, Option, Some, None, IfSome, Ok, refl, sym, ◌∙◌, ap, subst, eq-eqb, arith}
+use Rattle.std.proofs.Common.{◌≡◌, ℕ, zero, suc, ◌+◌, ◌-◌, ◌^◌, ◌<◌, true, false, ◌&&◌, eqb, List, [], ◌∷◌, ◌++◌, length, map, Option, Some, None, IfSome, Ok, refl, sym, ◌∙◌, ap, subst, eq-eqb, arith}
 use Rattle.std.specs.List.{slice_get, filter_map, cons_option, list_any}
-use Rattle.std.proofs.lemmas.Bool.{cond-true, cond-false, ne_eqb, and_from, or_left, or_right, le-leb, eqb-true, false≢true}
-use Rattle.std.specs.Option.{IsSome}
+use Rattle.std.proofs.lemmas.Bool.{cond-true, and_from, or_left, or_right, le-leb, eqb-true, false≢true}
 use Rattle.std.proofs.lemmas.Option.{same_Some}
 use Rattle.node_ids.specs.declared.Parts.{Parts}
 use Rattle.node_ids.specs.Ids.{LayoutForm, width, greatest, id_of}
@@ -15,12 +14,10 @@ use Rattle.op_model.specs.Chunks.{top, layers, chunk}
 use Rattle.record_rows.specs.Rows.{Row, HeaderRow, ChunkRow, NodeRow, Node}
 use Rattle.record_rows.specs.Chains.{node_in}
 use Rattle.record_rows.specs.LogRows.{layer_chunks, chunks, rows_of}
-use Rattle.record_rows.specs.Words.{place_from}
-use Rattle.record_rows.specs.Readings.{HoldsChunk, HoldsNode, ParentImage, place_of, first_place, next_place}
+use Rattle.record_rows.specs.Readings.{HoldsChunk, HoldsNode, ParentImage, first_place, next_place}
 use Rattle.record_rows.specs.Walks.{is_chunk, first_in}
 use Rattle.record_rows.proofs.WalkLemmas.{LeadsTo, Behind, steps_left, from_spot, first_leads, next_leads, gather_first, gather_step}
 use Rattle.record_rows.proofs.ToldLaws.{headed}
-use Rattle.record_rows.proofs.NodePlaces.{found_from}
 use Rattle.record_rows.proofs.BaseCounts.{flat_has}
 use Rattle.record_rows.proofs.BaseRows.{place_in, chunk_at_place}
 use Rattle.op_model.proofs.LegalLemmas.{ascending_has, map_has}

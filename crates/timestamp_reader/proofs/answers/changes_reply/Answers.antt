@@ -1,4 +1,4 @@
-use Rattle.std.proofs.Common.{◌≡◌, ◌∙◌, ◌∷◌, [], Some, None, refl, sym, subst, inl, inr}
+use Rattle.std.proofs.Common.{◌≡◌, ◌∙◌, ◌∷◌, [], Some, refl, sym, subst, inl, inr}
 use Rattle.std.specs.Prelude.{MatchResult, IfOk}
 use Rattle.op_model.specs.declared.request.Read.TheVariants as read
 use Rattle.op_model.specs.Answers.{ancestors, changes}
