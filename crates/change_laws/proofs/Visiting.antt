@@ -35,7 +35,7 @@ filter_alike s t f (e ∷ log) = ap₂ (λ (c : Bool) (xs : List Entry). cond c 
 
 module _ (d : Dataset) (b : Base) (valid : IsDataset d) (base : IsBase d b) where
   -- an entry neither made nor retired a root that an older one retired
-  made_once : (e : Entry) (log : List Entry) (a : ℕ) → Legal d b (e ∷ log) → has e.made a ≡ true → IsRetired d b log a → ⊥
+  pub made_once : (e : Entry) (log : List Entry) (a : ℕ) → Legal d b (e ∷ log) → has e.made a ≡ true → IsRetired d b log a → ⊥
   made_once e [] a legal h r = none r.0 r.3
     where
       none : (newer : List Entry) → [] ≡ newer ++ r.2 ∷ r.1 → ⊥
@@ -46,7 +46,7 @@ module _ (d : Dataset) (b : Base) (valid : IsDataset d) (base : IsBase d b) wher
       let whole : e ∷ f ∷ log ≡ (e ∷ r.0) ++ r.2 ∷ r.1 = ap (λ xs. e ∷ xs) r.3 in
       gone d b valid base (e ∷ r.0) r.2 r.1 a u.0 (subst (Legal d b) whole legal) r.4 (known_end d b valid base e (f ∷ log) u.0 legal u.1) (subst (λ l. root d b l u.0 ≡ a) whole u.2)
 
-  retired_once : (e : Entry) (log : List Entry) (a : ℕ) → Legal d b (e ∷ log) → has e.retired a ≡ true → IsRetired d b log a → ⊥
+  pub retired_once : (e : Entry) (log : List Entry) (a : ℕ) → Legal d b (e ∷ log) → has e.retired a ≡ true → IsRetired d b log a → ⊥
   unfolding first_entry
   retired_once e [] a legal h r = has_none a (subst (λ xs. has xs a ≡ true) (ap (λ z. z.retired) legal.0) h)
   retired_once e (f ∷ log) a legal h r =

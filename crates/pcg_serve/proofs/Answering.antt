@@ -14,10 +14,19 @@ use Rattle.op_model.specs.declared.reply.Reply.{Reply}
 use Rattle.op_model.specs.declared.reply.Reply.TheVariants as reply
 use Rattle.op_model.specs.Refusals.{refuse_read, refused}
 use Rattle.op_model.specs.Answers.{answer}
-use Rattle.op_model.specs.Transcript.{Asks, Unbuilt, Line, read_reply, log_at}
+use Rattle.op_model.specs.Transcript.{Asks, Line, read_reply, log_at}
 use Rattle.request_lines.specs.Asking.{Gives, asked}
-use Rattle.timestamp_reader.specs.Replies.{IsAnswer, reply_to}
+use Rattle.record_rows.specs.Readings.{Image}
+use Rattle.record_rows.proofs.ImageFacts.{parent_image}
+use Rattle.timestamp_reader.specs.Replies.{ImageFor, IsAnswer, reply_to}
 use Rattle.pcg_serve.specs.Sessions.{Answers, RepliesTo, asked_line, line_of}
+
+-- the whole image serves each read
+pub image_for : (d : Dataset) (b : Base) (log : List Entry) (words : List ℕ) → Image d b log words → (q : Read) → ImageFor q d b log words
+image_for d b log words i (read.Root v at) = parent_image d b log words i
+image_for d b log words i (read.Path v at) = parent_image d b log words i
+image_for d b log words i (read.Leaves root at) = parent_image d b log words i
+image_for d b log words i (read.Changes root at) = i
 
 module _ (d : Dataset) (b : Base) (e : Entry) where
   abbrev log : List Entry
@@ -58,15 +67,20 @@ module _ (d : Dataset) (b : Base) (e : Entry) where
       let P : Reply → Type 0 = λ y. Answers d b log (Asks (request.Read (read.Leaves root at))) y in
       subst P (sym (h ∙ ap (λ y. read_reply y log (answer d b log (read.Leaves root at))) o)) (refusal_so (read.Leaves root at) x o)
 
+  changes_so : (root : ℕ) (at : Option ℕ) (o : Option Refusal) → refuse_read d b log (read.Changes root at) ≡ o → (r : Reply) → r ≡ reply_to d b log (read.Changes root at) → Answers d b log (Asks (request.Read (read.Changes root at))) r
+  unfolding log_at refused read_reply reply_to answer
+  changes_so root at None o r h =
+      let P : Reply → Type 0 = λ x. Answers d b log (Asks (request.Read (read.Changes root at))) x in
+      let same = ap (λ x. read_reply x log (answer d b log (read.Changes root at))) o in
+      subst P (sym (h ∙ same)) (1, omega arith, omega arith, omega arith, sym same, refl)
+  changes_so root at (Some x) o r h =
+      let P : Reply → Type 0 = λ y. Answers d b log (Asks (request.Read (read.Changes root at))) y in
+      subst P (sym (h ∙ ap (λ y. read_reply y log (answer d b log (read.Changes root at))) o)) (refusal_so (read.Changes root at) x o)
+
   memory_so : (line : Line) (r : Reply) → r ≡ reply.NoMemory → Answers d b log line r
   memory_so line r h =
       let P : Reply → Type 0 = λ x. Answers d b log line x in
       subst P (sym h) refl
-
-  unbuilt_so : (r : Reply) → r ≡ reply.NotBuilt → Answers d b log Unbuilt r
-  unbuilt_so r h =
-      let P : Reply → Type 0 = λ x. Answers d b log Unbuilt x in
-      subst P (sym h) (refl, refl)
 
   -- the reply to a read
   pub read_so : (q : Read) (r : Reply) → IsAnswer d b log q r → Answers d b log (line_of (Ok (request.Read q))) r
@@ -74,7 +88,8 @@ module _ (d : Dataset) (b : Base) (e : Entry) where
   read_so (read.Path v at) r h = path_so v at (refuse_read d b log (read.Path v at)) refl r h
   read_so (read.Leaves root at) r (inl h) = leaves_so root at (refuse_read d b log (read.Leaves root at)) refl r h
   read_so (read.Leaves root at) r (inr h) = memory_so (Asks (request.Read (read.Leaves root at))) r h.0
-  read_so (read.Changes root at) r h = unbuilt_so r h
+  read_so (read.Changes root at) r (inl h) = changes_so root at (refuse_read d b log (read.Changes root at)) refl r h
+  read_so (read.Changes root at) r (inr h) = memory_so (Asks (request.Read (read.Changes root at))) r h.0
 
   bad_so : (line : List ℕ) (error : LineError) (r : Reply) → asked line ≡ Err error → r ≡ reply.BadLine error → Answers d b log (asked_line line) r
   bad_so line error r g h =

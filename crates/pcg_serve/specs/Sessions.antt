@@ -9,7 +9,6 @@ use Rattle.op_model.specs.declared.reply.Reply.{Reply}
 use Rattle.op_model.specs.declared.reply.Reply.TheVariants as reply
 use Rattle.op_model.specs.declared.request.LineError.{LineError}
 use Rattle.op_model.specs.declared.request.LineError.TheVariants as errors
-use Rattle.op_model.specs.declared.request.Read.TheVariants as read
 use Rattle.op_model.specs.declared.request.Request.{Request}
 use Rattle.op_model.specs.declared.request.Request.TheVariants as request
 use Rattle.op_model.specs.Transcript.{Line, Asks, Faulty, Unbuilt, Transcript}
@@ -23,9 +22,8 @@ use Rattle.pcg_serve.specs.declared.ingest.Ingest.{Ingest}
 use Rattle.pcg_serve.specs.declared.session.Session.{Session}
 use Rattle.pcg_serve.specs.Ingests.{log_of}
 
--- what a line is that is read as this: edits and reads of changes aren't answered yet
+-- what a line is that is read as this: edits aren't answered yet
 abbrev pub line_of : Result Request LineError → Line
-line_of (Ok (request.Read (read.Changes root at))) = Unbuilt
 line_of (Ok (request.Read q)) = Asks (request.Read q)
 line_of (Ok (request.Edit edit)) = Unbuilt
 line_of (Err error) = Faulty error

@@ -1,5 +1,5 @@
 -- What a look-up among the supervoxels tells, masks of locks, and refusals.
-use Rattle.std.proofs.Common.{◌≡◌, ℕ, ◌*◌, ◌%◌, ◌^◌, ◌-◌, ◌<◌, ◌≤◌, false, ◌||◌, eqb, List, [], ◌∷◌, length, drop, Option, Some, None, sym, ◌∙◌, ap, arith, eq-eqb, ne_eqb, w64}
+use Rattle.std.proofs.Common.{◌≡◌, ℕ, ◌*◌, ◌%◌, ◌^◌, ◌-◌, ◌<◌, ◌≤◌, true, false, ◌||◌, eqb, List, [], ◌∷◌, length, drop, Option, Some, None, refl, sym, ◌∙◌, ap, subst, arith, eq-eqb, ne_eqb, w64}
 use Rattle.std.specs.Option.{is_some}
 use Rattle.std.specs.Int.{bit_at}
 use Rattle.std.specs.Int.Bits.{bit_or}
@@ -20,15 +20,30 @@ use Rattle.op_model.specs.Refusals.{first_of, refuse_cut, refuse_early}
 use Rattle.op_model.specs.Transcript.{log_at}
 use Rattle.record_rows.specs.Readings.{ParentImage}
 use Rattle.record_rows.specs.Sorted.{FoundAmong, supervoxel_count}
-use Rattle.record_rows.proofs.BaseRows.{supervoxel_known}
-use Rattle.timestamp_reader.proofs.Refused.{supervoxel_sought}
+use Rattle.record_rows.specs.Rows.{Row, HeaderRow, SupervoxelRow}
+use Rattle.record_rows.specs.LogRows.{chunks, rows_of}
+use Rattle.record_rows.specs.Walks.{is_supervoxel}
+use Rattle.record_rows.proofs.BaseRows.{supervoxel_found, supervoxel_known, supervoxel_spot}
+use Rattle.record_rows.proofs.ToldLaws.{headed}
+use Rattle.record_rows.proofs.WalkLemmas.{LeadsTo, first_leads}
+use Rattle.std.specs.List.{slice_get}
+use Rattle.std.proofs.lemmas.Bool.{eqb-true, false_from_ne_true, false≢true}
 use Rattle.root_masks.specs.Masks.{has_bit}
 use Rattle.root_masks.specs.Plans.{IsUnplanned}
 
 -- what is found shows whether the base has the supervoxel
 pub found_known : (d : Dataset) (b : Base) (log : List Entry) (words : List ℕ) → ParentImage d b log words → (v : ℕ) (found : Option ℕ) → FoundAmong words 1 (supervoxel_count words) v found → is_some found ≡ has b.supervoxels v
-found_known d b log words i v None f = let s = supervoxel_sought d b log words i v None f in sym s
-found_known d b log words i v (Some p) f = let s = supervoxel_sought d b log words i v (Some p) f in sym (supervoxel_known d b log words i p v s)
+unfolding is_supervoxel
+found_known d b log words i v None f = sym (false_from_ne_true _ (λ t. let s = supervoxel_spot d b log words i v t None f in let q : None ≡ Some s.0 = s.1 in cc))
+found_known d b log words i v (Some p) f =
+    let at : LeadsTo (is_supervoxel v) (rows_of d b log) (Some p) =
+    subst (LeadsTo (is_supervoxel v) (rows_of d b log)) (sym (supervoxel_found d b log words i v (Some p) f))
+    (first_leads (is_supervoxel v) (rows_of d b log) (HeaderRow d (length b.supervoxels) (length (chunks d b))) (headed d b log) refl) in
+    from at.1 at.2 at.3
+  where
+    from : (row : Row) → slice_get (rows_of d b log) p ≡ Some row → is_supervoxel v row ≡ true → true ≡ has b.supervoxels v
+    from (SupervoxelRow u) g t = sym (supervoxel_known d b log words i p v (subst (λ x. slice_get (rows_of d b log) p ≡ Some (SupervoxelRow x)) (eqb-true u v t) g))
+    from row g t = absurd (false≢true t)
 
 -- at its whole length a log is itself
 pub whole_log : (d : Dataset) (b : Base) (log : List Entry) (n : ℕ) → n ≡ length log → log_at d b log n ≡ log

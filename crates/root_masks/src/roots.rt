@@ -8,9 +8,9 @@ ghost use Rattle.log_rows.specs.Entries.{HasLog};
 
 use log_rows::length;
 use node_ids::NodeId;
+use node_reader::root_at;
 use pcg_base::Words;
 use row_words::supervoxel;
-use timestamp_reader::root_at;
 
 /// Whether the base has a supervoxel of this id.
 pub fn is_known<W: Words>(w: &mut W, sv: NodeId) -> bool

@@ -8,7 +8,7 @@ use Rattle.record_rows.specs.Readings.{Image, ParentImage}
 use Rattle.record_rows.proofs.ImageFacts.{parent_image}
 use Rattle.row_tests.specs.Samples.{words_regained}
 use Rattle.row_tests.proofs.SampleImages.{regained_image}
-use Rattle.row_tests.specs.Logs.{IsBuilt, TellsLog}
+use Rattle.row_tests.specs.Logs.{HoldsLog, IsBuilt, TellsLog}
 
 pub told_parents : (words : List ℕ) → TellsLog words → (d : Dataset) × (b : Base) × (log : List Entry) × ParentImage d b log words
 told_parents words i = (i.d, i.b, i.log, i.image)
@@ -21,3 +21,9 @@ built_entry words i = (i.d, i.b, i.entry ∷ [], i.image, omega arith)
 
 pub regained_tells : (words : List ℕ) → words ≡ words_regained → TellsLog words
 regained_tells words e = record { d = data_a; b = base; log = regained; image = subst (ParentImage data_a base regained) (sym e) (parent_image data_a base regained words_regained regained_image) }
+
+pub held_log : (words : List ℕ) → HoldsLog words → (d : Dataset) × (b : Base) × (log : List Entry) × Image d b log words
+held_log words i = (i.d, i.b, i.log, i.image)
+
+pub regained_holds : (words : List ℕ) → words ≡ words_regained → HoldsLog words
+regained_holds words e = record { d = data_a; b = base; log = regained; image = subst (Image data_a base regained) (sym e) regained_image }

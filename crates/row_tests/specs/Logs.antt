@@ -22,6 +22,13 @@ pub record TellsLog (words : List ℕ) : Type 0 where
   pub log : List Entry
   pub image : ParentImage d b log words
 
+-- the words are the image of a log
+pub record HoldsLog (words : List ℕ) : Type 0 where
+  pub d : Dataset
+  pub b : Base
+  pub log : List Entry
+  pub image : Image d b log words
+
 -- no word of this record is told of nodes and parents
 abbrev pub IsUntold : Row → Type 0
 IsUntold row = AllByRecursion (λ t. t ≡ false) (told row)

@@ -4,10 +4,12 @@
 ghost use Rattle.std.specs.Prelude.{◌≡◌};
 ghost use Rattle.row_tests.specs.Logs.{IsBuilt, TellsLog};
 
-use crate::reads::{has_leaves, has_path, has_root, refuses};
+use crate::reads::{
+    has_leaves, has_path, has_root, leaves_are_refused, path_is_refused, root_is_refused,
+};
 use crate::wanted::{Wanted, is_known, last_root, leaves_of};
 use node_ids::NodeId;
-use op_model::{Entry, Read, Refusal};
+use op_model::{Entry, Refusal};
 use pcg_base::{NoMemory, VecWords};
 use std::alloc::Global;
 use timestamp_reader::entry;
@@ -92,15 +94,8 @@ fn refuses_time(alloc: Global, w: &mut VecWords, x: &Wanted, at: u64, refusal: &
     requires tells { TellsLog w.old.words }
     ensures same { w.new ≡ w.old }
 {
-    let root = Read::Root {
-        sv: x.sv,
-        at: Some(at),
-    };
-    let leaves = Read::Leaves {
-        root: x.root,
-        at: Some(at),
-    };
-    refuses(alloc, w, &root, refusal, 1) && refuses(alloc, w, &leaves, refusal, 1)
+    root_is_refused(alloc, w, x.sv, Some(at), refusal, 1)
+        && leaves_are_refused(alloc, w, x.root, Some(at), refusal, 1)
 }
 
 /// Whether each read is refused a millisecond before the entry's time, and one behind it.
@@ -130,11 +125,7 @@ fn refuses_unknown(alloc: Global, w: &mut VecWords, wanted: &[Wanted], id: NodeI
         return true;
     }
     let refusal = Refusal::NoSuchSupervoxel { id };
-    let path = Read::Path {
-        sv: id,
-        at: Some(AT),
-    };
-    refuses(alloc, w, &path, &refusal, 1)
+    path_is_refused(alloc, w, id, Some(AT), &refusal, 1)
 }
 
 /// Whether the ids next to each supervoxel and its root are refused as supervoxels, unless they are.
@@ -158,8 +149,7 @@ fn refuses_root(alloc: Global, w: &mut VecWords, root: NodeId, refusal: &Refusal
     requires tells { TellsLog w.old.words }
     ensures same { w.new ≡ w.old }
 {
-    let request = Read::Leaves { root, at: None };
-    refuses(alloc, w, &request, refusal, 1)
+    leaves_are_refused(alloc, w, root, None, refusal, 1)
 }
 
 /// Whether the id behind the last root is refused as one that no entry made, and each supervoxel and

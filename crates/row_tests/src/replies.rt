@@ -1,7 +1,7 @@
 //! Whether replies are what is wanted, and say that so many entries were seen.
 
 use node_ids::NodeId;
-use op_model::{PathIds, Refusal, Reply};
+use op_model::{PathIds, Refusal, Reply, Summary};
 use pcg_base::NoMemory;
 
 pub fn is_root(reply: &Reply, want: NodeId, at: u32) -> bool {
@@ -29,6 +29,14 @@ fn same_path(one: &PathIds, other: &PathIds) -> bool {
 pub fn are_leaves(reply: &Reply, want: &[NodeId], at: u32) -> Result<bool, NoMemory> {
     match reply {
         Reply::Leaves { leaves, seen } => Ok(leaves.list.as_slice() == want && *seen == at),
+        Reply::NoMemory => Err(NoMemory),
+        _ => Ok(false),
+    }
+}
+
+pub fn are_changes(reply: &Reply, want: &[Summary], at: u32) -> Result<bool, NoMemory> {
+    match reply {
+        Reply::Changes { ops, seen } => Ok(ops.list.as_slice() == want && *seen == at),
         Reply::NoMemory => Err(NoMemory),
         _ => Ok(false),
     }

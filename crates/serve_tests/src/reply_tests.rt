@@ -63,7 +63,7 @@ const LINES: [(&str, &str); 17] = [
     ),
     (
         "{\"do\":\"changes\",\"root\":\"216172782113783809\"}",
-        "{\"ok\":false,\"refusal\":\"NotBuilt\"}",
+        "{\"changes\":[{\"at\":1000,\"do\":\"ingest\",\"op\":0}],\"ok\":true,\"seen\":1}",
     ),
     (
         "{\"do\":\"root\",\"sv\":\"72057594037927938\"}",
@@ -95,7 +95,7 @@ fn each_reply(rt: HostRuntime) -> Result<(), Fail> {
     };
     let ran = call(rt.alloc(), &outside)?;
     let summary =
-        b"{\"accepted\":0,\"clients\":1,\"entries\":1,\"faults\":[],\"lines\":17,\"records\":24,\"refused\":12,\"roots\":2,\"status\":0}\n";
+        b"{\"accepted\":0,\"clients\":1,\"entries\":1,\"faults\":[],\"lines\":17,\"records\":24,\"refused\":11,\"roots\":2,\"status\":0}\n";
     assert!(rt; ends_so(&ran, 0, replies.as_slice(), summary));
     Ok(())
 }

@@ -1,8 +1,7 @@
 -- The walk over the nodes of a chunk that the first entry made.
-use Rattle.std.proofs.Common.{◌≡◌, ℕ, zero, suc, ◌+◌, ◌-◌, ◌^◌, ◌<◌, Bool, true, false, cond, ◌&&◌, eqb, List, [], ◌∷◌, ◌++◌, length, map, Option, Some, None, IfSome, Ok, refl, sym, ◌∙◌, ap, subst, eq-eqb, arith}
+use Rattle.std.proofs.Common.{◌≡◌, ℕ, zero, suc, ◌+◌, ◌-◌, ◌^◌, ◌<◌, true, false, ◌&&◌, eqb, List, [], ◌∷◌, ◌++◌, length, map, Option, Some, None, IfSome, Ok, refl, sym, ◌∙◌, ap, subst, eq-eqb, arith}
 use Rattle.std.specs.List.{slice_get, filter_map, cons_option, list_any}
-use Rattle.std.proofs.lemmas.Bool.{cond-true, cond-false, ne_eqb, and_from, or_left, or_right, le-leb, eqb-true, false≢true}
-use Rattle.std.specs.Option.{IsSome}
+use Rattle.std.proofs.lemmas.Bool.{cond-true, and_from, or_left, or_right, le-leb, eqb-true, false≢true}
 use Rattle.std.proofs.lemmas.Option.{same_Some}
 use Rattle.node_ids.specs.declared.Parts.{Parts}
 use Rattle.node_ids.specs.Ids.{LayoutForm, width, greatest, id_of}
@@ -15,12 +14,10 @@ use Rattle.op_model.specs.Chunks.{top, layers, chunk}
 use Rattle.record_rows.specs.Rows.{Row, HeaderRow, ChunkRow, NodeRow, Node}
 use Rattle.record_rows.specs.Chains.{node_in}
 use Rattle.record_rows.specs.LogRows.{layer_chunks, chunks, rows_of}
-use Rattle.record_rows.specs.Words.{place_from}
-use Rattle.record_rows.specs.Readings.{HoldsChunk, HoldsNode, ParentImage, place_of, first_place, next_place}
+use Rattle.record_rows.specs.Readings.{HoldsChunk, HoldsNode, ParentImage, first_place, next_place}
 use Rattle.record_rows.specs.Walks.{is_chunk, first_in}
 use Rattle.record_rows.proofs.WalkLemmas.{LeadsTo, Behind, steps_left, from_spot, first_leads, next_leads, gather_first, gather_step}
 use Rattle.record_rows.proofs.ToldLaws.{headed}
-use Rattle.record_rows.proofs.NodePlaces.{found_from}
 use Rattle.record_rows.proofs.BaseCounts.{flat_has}
 use Rattle.record_rows.proofs.BaseRows.{place_in, chunk_at_place}
 use Rattle.op_model.proofs.LegalLemmas.{ascending_has, map_has}
@@ -32,6 +29,7 @@ use Rattle.op_model.specs.Legal.{Legal}
 use Rattle.graph_model.proofs.ListLemmas.{has_head}
 use Rattle.record_rows.proofs.FirstRoots.{first_made}
 use Rattle.op_model.proofs.LocalLemmas.{top_in_layers}
+use Rattle.change_reader.proofs.RowSearches.{none_passes, stands_there}
 use Rattle.timestamp_reader.specs.Places.{NodeAt, first_from}
 
 -- the id of a layer's first chunk
@@ -93,27 +91,6 @@ unfolding steps_left
 fewer n p l next None b s = omega arith
 fewer n p l None (Some q) b s = cc
 fewer n p l (Some r) (Some q) b s = let e : r ≡ q = same_Some _ _ s in let k : p < r = b in omega arith
-
--- A search of a log's records by a test that the header doesn't pass.
-module _ (d : Dataset) (b : Base) (log : List Entry) (test : Row → Bool) (skips : test (HeaderRow d (length b.supervoxels) (length (chunks d b))) ≡ false) where
-  -- where it ends stands a record that passes
-  pub stands_there : (p : ℕ) → first_place test (rows_of d b log) ≡ Some p → (row : Row) × (slice_get (rows_of d b log) p ≡ Some row) × (test row ≡ true)
-  stands_there p h = from (Some p) (subst (LeadsTo test (rows_of d b log)) h (first_leads test (rows_of d b log) (HeaderRow d (length b.supervoxels) (length (chunks d b))) (headed d b log) skips)) p refl
-    where
-      from : (at : Option ℕ) → LeadsTo test (rows_of d b log) at → (q : ℕ) → at ≡ Some q → (row : Row) × (slice_get (rows_of d b log) q ≡ Some row) × (test row ≡ true)
-      from None l q e = cc
-      from (Some r) (low, row, g, t) q e = (row, subst (λ x. slice_get (rows_of d b log) x ≡ Some row) (same_Some _ _ e) g, t)
-
-  -- where it ends nowhere, no record passes
-  pub none_passes : first_place test (rows_of d b log) ≡ None → list_any test (rows_of d b log) ≡ true → ⊥
-  unfolding first_place place_of
-  none_passes h a = let f = found_from test (rows_of d b log) 0 (rows_of d b log) refl a in at_zero (place_from test 0 (rows_of d b log)) h f.0 f.1 f.2
-    where
-      at_zero : (n : ℕ) → cond (eqb n 0) None (Some n) ≡ None → (row : Row) → slice_get (rows_of d b log) n ≡ Some row → test row ≡ true → ⊥
-      at_zero zero e row s t = let q : Some row ≡ Some (HeaderRow d (length b.supervoxels) (length (chunks d b))) = sym s ∙ headed d b log in let w : row ≡ HeaderRow d (length b.supervoxels) (length (chunks d b)) = cc in false≢true (sym skips ∙ (ap test (sym w) ∙ t))
-      at_zero (suc n) e row s t =
-          let q : Some (suc n) ≡ None = sym (cond-false (eqb (suc n) 0) None (Some (suc n)) (ne_eqb (suc n) 0 (λ y. absurd (let w : suc n ≡ 0 = y in omega arith)))) ∙ e in
-          false≢true (subst IsSome q refl)
 
 module _ (d : Dataset) (b : Base) (log : List Entry) (k : ℕ) where
   -- where the search for a chunk ends there is its record

@@ -1,6 +1,6 @@
 -- What a read is refused for, one cause after the other.
-use Rattle.std.proofs.Common.{◌≡◌, ℕ, true, false, List, [], ◌∷◌, ◌++◌, length, Option, Some, None, Result, Ok, Err, refl, sym, ◌∙◌, ap, ap₂, subst, inl, inr}
-use Rattle.std.specs.Prelude.{MatchOption, MatchResult}
+use Rattle.std.proofs.Common.{◌≡◌, ℕ, Bool, true, false, cond, not, List, [], ◌∷◌, ◌++◌, length, Option, Some, None, refl, sym, ◌∙◌, ap, ap₂, subst, inl, inr}
+use Rattle.std.specs.Prelude.{MatchOption}
 use Rattle.std.specs.List.{list_any, slice_get}
 use Rattle.std.proofs.lemmas.Bool.{cases_Bool, eqb-true, false≢true}
 use Rattle.op_model.specs.declared.base.Dataset.{Dataset}
@@ -12,7 +12,8 @@ use Rattle.op_model.specs.declared.request.Read.{Read}
 use Rattle.op_model.specs.declared.request.Read.TheVariants as read
 use Rattle.op_model.specs.declared.reply.Reply.TheVariants as reply
 use Rattle.graph_model.specs.Lists.{has}
-use Rattle.op_model.specs.Answers.{answer}
+use Rattle.op_model.specs.declared.reply.Summary.{Summary}
+use Rattle.op_model.specs.Answers.{ancestors, answer, changes}
 use Rattle.op_model.specs.Labels.{path, root as root_of}
 use Rattle.op_model.specs.Refusals.{first_of, is_root_id, prefix_for, refuse_first, refuse_if, refuse_read, refuse_root, refuse_time, refuse_unknown}
 use Rattle.op_model.specs.Transcript.{log_at, read_reply}
@@ -22,8 +23,9 @@ use Rattle.record_rows.specs.Readings.{HoldsSupervoxel, ParentImage}
 use Rattle.record_rows.specs.Sorted.{FoundAmong, supervoxel_count}
 use Rattle.record_rows.specs.Walks.{is_supervoxel}
 use Rattle.record_rows.proofs.BaseRows.{supervoxel_found, supervoxel_known, supervoxel_spot}
-use Rattle.timestamp_reader.specs.Replies.{HoldsRoot, IsAsked, reply_to}
-use Rattle.timestamp_reader.proofs.FirstWalks.{stands_there}
+use Rattle.timestamp_reader.specs.Replies.{HoldsRoot, IsAsked, IsAskedRoot, reply_to}
+use Rattle.change_reader.specs.Walks.{IsMadeRoot}
+use Rattle.change_reader.proofs.RowSearches.{stands_there}
 use Rattle.timestamp_reader.proofs.ReadPrefixes.{IsPrefix}
 
 -- the first refusal of a list is that of a longer one
@@ -109,12 +111,37 @@ module _ (d : Dataset) (b : Base) where
   unfolding first_of refuse_root refuse_if
   root_there log r h n = rw (h, n) refl
 
-  -- so the record that is found is that of the root at the read's prefix, or its refusal is the read's
-  pub root_asked : (log : List Entry) (r : ℕ) (at : Option ℕ) (k : ℕ) → IsPrefix d b log at k → (found : Result ℕ Refusal)
-      → MatchResult found (HoldsRoot d b log (log_at d b log k) r) (λ q. first_of (refuse_root d b (log_at d b log k) r) ≡ Some q)
-      → MatchResult found (λ p. HoldsRoot d b log (prefix_for log at) r p × (refuse_read d b log (read.Leaves r at) ≡ None)) (λ q. refuse_read d b log (read.Leaves r at) ≡ Some q)
-  root_asked log r at k q (Ok p) h = (subst (λ l. HoldsRoot d b log l r p) q.entries h, leaves_later log r at k q ∙ h.unrefused)
-  root_asked log r at k q (Err e) h = leaves_later log r at k q ∙ h
+  -- so the record that is found is that of the root at the read's prefix
+  pub root_asked : (log : List Entry) (r : ℕ) (at : Option ℕ) (k p : ℕ) → IsPrefix d b log at k → HoldsRoot d b log (log_at d b log k) r p → IsAskedRoot d b log r at p k
+  root_asked log r at k p q h = record {
+    unrefused = leaves_later log r at k q ∙ h.unrefused;
+    held = subst (λ l. HoldsRoot d b log l r p) q.entries h;
+    low = q.low;
+    high = q.high;
+    entries = q.entries;
+  }
+
+  -- or its refusal is the read's
+  pub root_unasked : (log : List Entry) (r : ℕ) (at : Option ℕ) (k : ℕ) (e : Refusal) → IsPrefix d b log at k → first_of (refuse_root d b (log_at d b log k) r) ≡ Some e → refuse_read d b log (read.Leaves r at) ≡ Some e
+  root_unasked log r at k e q h = leaves_later log r at k q ∙ h
+
+  -- a root that isn't refused was made
+  root_made : (log : List Entry) (r : ℕ) → first_of (refuse_root d b log r) ≡ None → list_any (λ e. has e.made r) log ≡ true
+  unfolding first_of refuse_root refuse_if
+  root_made log r h = go (is_root_id d r) (list_any (λ e. has e.made r) log) h
+    where
+      go : (x y : Bool) → first_of (cond (not x) (Some (NotARoot r)) None ∷ cond (not y) (Some (NoSuchRoot r)) None ∷ []) ≡ None → y ≡ true
+      go true true e = refl
+      go true false e = cc
+      go false y e = cc
+
+  pub changes_asked : (log : List Entry) (words : List ℕ) → ParentImage d b log words → (r : ℕ) (at : Option ℕ) (p k : ℕ) → IsAskedRoot d b log r at p k → IsMadeRoot d b log words r k
+  changes_asked log words i r at p k a = record {
+    image = i;
+    low = a.low;
+    high = a.high;
+    made = subst (λ l. list_any (λ e. has e.made r) l ≡ true) (sym a.entries) (root_made (prefix_for log at) r a.held.unrefused);
+  }
 
   -- a read that is refused
   pub refused_reply : (log : List Entry) (request : Read) (r : Refusal) (n : ℕ) → refuse_read d b log request ≡ Some r → n ≡ length log → reply.Refused r n ≡ reply_to d b log request
@@ -132,11 +159,27 @@ module _ (d : Dataset) (b : Base) where
   path_reply log v at p k nodes n a e s =
       ap₂ (λ x y. reply.Path x y) (e ∙ ap (λ l. path d b l v) a.entries) s ∙ ap (λ o. read_reply o log (answer d b log (read.Path v at))) (sym a.unrefused)
 
-  pub leaves_reply : (log : List Entry) (r : ℕ) (at : Option ℕ) (p : ℕ) (ids : List ℕ) (n : ℕ) → (h : HoldsRoot d b log (prefix_for log at) r p) → refuse_read d b log (read.Leaves r at) ≡ None → ids ≡ h.node.leaves → n ≡ length log
+  pub leaves_reply : (log : List Entry) (r : ℕ) (at : Option ℕ) (p k : ℕ) (ids : List ℕ) (n : ℕ) → (a : IsAskedRoot d b log r at p k) → ids ≡ a.held.node.leaves → n ≡ length log
       → reply.Leaves ids n ≡ reply_to d b log (read.Leaves r at)
   unfolding reply_to read_reply refuse_read answer
-  leaves_reply log r at p ids n h u e s =
-      ap₂ (λ x y. reply.Leaves x y) (e ∙ h.shown) s ∙ ap (λ o. read_reply o log (answer d b log (read.Leaves r at))) (sym u)
+  leaves_reply log r at p k ids n a e s =
+      ap₂ (λ x y. reply.Leaves x y) (e ∙ a.held.shown) s ∙ ap (λ o. read_reply o log (answer d b log (read.Leaves r at))) (sym a.unrefused)
+
+  pub changes_reply : (log : List Entry) (r : ℕ) (at : Option ℕ) (p k : ℕ) (ops : List Summary) (n : ℕ) → (a : IsAskedRoot d b log r at p k)
+      → ops ≡ changes d b (log_at d b log k) (ancestors d b (log_at d b log k) (r ∷ [])) → n ≡ length log → reply.Changes ops n ≡ reply_to d b log (read.Changes r at)
+  unfolding reply_to read_reply refuse_read answer
+  changes_reply log r at p k ops n a e s =
+      ap₂ (λ x y. reply.Changes x y) (e ∙ ap (λ l. changes d b l (ancestors d b l (r ∷ []))) a.entries) s
+      ∙ ap (λ o. read_reply o log (answer d b log (read.Changes r at))) (sym a.unrefused)
+
+  -- a read of changes is refused as one of leaves is
+  pub changes_refused : (log : List Entry) (root : ℕ) (at : Option ℕ) (r : Refusal) (n : ℕ) → refuse_read d b log (read.Leaves root at) ≡ Some r → n ≡ length log → reply.Refused r n ≡ reply_to d b log (read.Changes root at)
+  unfolding refuse_read
+  changes_refused log root at r n h s = refused_reply log (read.Changes root at) r n h s
+
+  pub changes_unrefused : (log : List Entry) (root : ℕ) (at : Option ℕ) → refuse_read d b log (read.Leaves root at) ≡ None → refuse_read d b log (read.Changes root at) ≡ None
+  unfolding refuse_read
+  changes_unrefused log root at h = h
 
   -- a path is refused as a root is
   pub path_refused : (log : List Entry) (v : ℕ) (at : Option ℕ) (r : Refusal) (n : ℕ) → refuse_read d b log (read.Root v at) ≡ Some r → n ≡ length log → reply.Refused r n ≡ reply_to d b log (read.Path v at)

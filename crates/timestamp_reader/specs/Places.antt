@@ -25,9 +25,3 @@ FirstNodeAt d b log c (Some p) = (1 ≤ p) × (n : Node) × HoldsNode d b log p 
 unfoldable pub first_from : Dataset → Base → List Entry → ℕ → Option ℕ → List ℕ
 first_from d b log c None = []
 first_from d b log c (Some p) = filter_map (first_in c) (drop p (rows_of d b log))
-
--- the entry with this number, of a log that the words tell of, changed these pairs
-pub record IsChangedBy (d : Dataset) (b : Base) (log : List Entry) (words : List ℕ) (n : ℕ) (e : Entry) (changed : List Changed) : Type 0 where
-  pub image : ParentImage d b log words
-  pub entry : entry_at log n ≡ Some e
-  pub pairs : changed ≡ e.changed

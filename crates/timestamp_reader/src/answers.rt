@@ -10,10 +10,11 @@ ghost use Rattle.graph_model.specs.Lists.{has};
 ghost use Rattle.std.specs.List.{list_any};
 ghost use Rattle.op_model.specs.Refusals.{first_of, is_root_id, prefix_for, refuse_read, refuse_root};
 ghost use Rattle.op_model.specs.Transcript.{log_at};
-ghost use Rattle.record_rows.specs.Readings.{HoldsId, HoldsSupervoxel, ParentImage};
+ghost use Rattle.record_rows.specs.Readings.{HoldsId, HoldsSupervoxel, Image, ParentImage};
 ghost use Rattle.node_reader.specs.Readable.{IsReadable};
-ghost use Rattle.timestamp_reader.specs.Replies.{HoldsRoot, IsAnswer, IsAsked, prefix_of_read, reply_to};
+ghost use Rattle.timestamp_reader.specs.Replies.{HoldsRoot, ImageFor, IsAnswer, IsAsked, IsAskedRoot, prefix_of_read, reply_to};
 
+use change_reader::changes;
 use log_rows::{TimeRefusal, length, prefix_at};
 use node_ids::{NodeId, Parts};
 use node_reader::{leaves, path_at, root_at, top_of};
@@ -25,18 +26,19 @@ use row_words::{Spot, fixed, supervoxel};
 use std::alloc::Global;
 
 /// The whole reply to a read: the first refusal in the order of `Refusal`'s variants, else the
-/// answer. A read that is refused takes no memory; of the others only one of leaves may find that
-/// there is none, and is then answered `NoMemory`. `Changes` isn't answered yet: `NotBuilt`.
+/// answer. A read that is refused takes no memory; of the others only one of leaves or of changes
+/// may find that there is none, and is then answered `NoMemory`. A read of changes needs the whole
+/// image of a log, and another one what tells of its nodes and parents.
 pub fn answer<W: Words>(alloc: Global, w: &mut W, request: &Read) -> Reply
-    requires image { (d : Dataset) × (b : Base) × (log : List Entry) × ParentImage d b log (W.words w.old) }
+    requires image { (d : Dataset) × (b : Base) × (log : List Entry) × ImageFor request.now d b log (W.words w.old) }
     ensures same { w.new ≡ w.old }
-    ensures is { (d : Dataset) (b : Base) (log : List Entry) → ParentImage d b log (W.words w.old) → IsAnswer d b log request.now result }
+    ensures is { (d : Dataset) (b : Base) (log : List Entry) → ImageFor request.now d b log (W.words w.old) → IsAnswer d b log request.now result }
 {
     match request {
         Read::Root { sv, at } => root_reply(w, *sv, *at),
         Read::Path { sv, at } => path_reply(w, *sv, *at),
         Read::Leaves { root, at } => leaves_reply(alloc, w, *root, *at),
-        Read::Changes { .. } => Reply::NotBuilt,
+        Read::Changes { root, at } => changes_reply(alloc, w, *root, *at),
     }
 }
 
@@ -80,8 +82,24 @@ fn leaves_reply<W: Words>(alloc: Global, w: &mut W, root: NodeId, at: Option<u64
 {
     let seen = length(w);
     match asked_root(w, root, at) {
-        Ok(spot) => match leaves(alloc, w, spot) {
+        Ok(asked) => match leaves(alloc, w, asked.spot) {
             Ok(leaves) => Reply::Leaves { leaves, seen },
+            Err(_) => Reply::NoMemory,
+        },
+        Err(refusal) => Reply::Refused { refusal, seen },
+    }
+}
+
+/// The reply to a read of a root's changes.
+fn changes_reply<W: Words>(alloc: Global, w: &mut W, root: NodeId, at: Option<u64>) -> Reply
+    requires image { (d : Dataset) × (b : Base) × (log : List Entry) × Image d b log (W.words w.old) }
+    ensures same { w.new ≡ w.old }
+    ensures is { (d : Dataset) (b : Base) (log : List Entry) → Image d b log (W.words w.old) → IsAnswer d b log (read.Changes root at) result }
+{
+    let seen = length(w);
+    match asked_root(w, root, at) {
+        Ok(asked) => match changes(alloc, w, root, asked.prefix) {
+            Ok(ops) => Reply::Changes { ops, seen },
             Err(_) => Reply::NoMemory,
         },
         Err(refusal) => Reply::Refused { refusal, seen },
@@ -117,14 +135,31 @@ fn asked_supervoxel<W: Words>(
     }
 }
 
-/// The record of a root whose leaves are read at this time, or why that is refused.
-fn asked_root<W: Words>(w: &mut W, root: NodeId, at: Option<u64>) -> Result<Spot, Refusal>
+/// A root's record, and how many entries a read of it is asked of.
+#[derive(Clone, Copy, Drop)]
+struct AskedRoot {
+    /// The place of the record.
+    spot: Spot,
+    /// From 1 to how many entries the log has.
+    prefix: u32,
+}
+
+/// What a read of a root's leaves at this time is asked of, or why it is refused. It is the same for
+/// a read of the root's changes.
+fn asked_root<W: Words>(w: &mut W, root: NodeId, at: Option<u64>) -> Result<AskedRoot, Refusal>
     requires image { (d : Dataset) × (b : Base) × (log : List Entry) × ParentImage d b log (W.words w.old) }
     ensures same { w.new ≡ w.old }
-    ensures is { (d : Dataset) (b : Base) (log : List Entry) → ParentImage d b log (W.words w.old) → MatchResult result (λ p. HoldsRoot d b log (prefix_for log at) root p × (refuse_read d b log (read.Leaves root at) ≡ None)) (λ r. refuse_read d b log (read.Leaves root at) ≡ Some r) }
+    ensures is { (d : Dataset) (b : Base) (log : List Entry) → ParentImage d b log (W.words w.old) → MatchResult result (λ a. IsAskedRoot d b log root at a.spot a.prefix) (λ r. refuse_read d b log (read.Leaves root at) ≡ Some r) }
 {
-    match prefix_of(w, at) {
-        Ok(prefix) => root_of_prefix(w, root, prefix),
+    let count = match prefix_of(w, at) {
+        Ok(prefix) => prefix,
+        Err(refusal) => return Err(refusal),
+    };
+    match root_of_prefix(w, root, count) {
+        Ok(spot) => Ok(AskedRoot {
+            spot,
+            prefix: count,
+        }),
         Err(refusal) => Err(refusal),
     }
 }

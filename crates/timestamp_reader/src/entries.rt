@@ -6,7 +6,7 @@ ghost use Rattle.op_model.specs.declared.base.Base.{Base};
 ghost use Rattle.op_model.specs.declared.entry.Entry.{Entry};
 ghost use Rattle.record_rows.specs.Readings.{ForSomeLog, Image};
 ghost use Rattle.log_rows.specs.Entries.{ForEntry, ForEntryAt, InEntry};
-ghost use Rattle.timestamp_reader.specs.Places.{IsChangedBy};
+ghost use Rattle.change_reader.specs.Walks.{IsChangedBy};
 
 use crate::first_roots::first_roots;
 use log_rows::{all_changed_at, asked_at, entry_spot, head_at, number};

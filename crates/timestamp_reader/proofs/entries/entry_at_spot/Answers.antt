@@ -3,7 +3,7 @@ use Rattle.record_rows.specs.Readings.{Image, ParentImage}
 use Rattle.record_rows.proofs.ImageFacts.{parent_image}
 use Rattle.log_rows.specs.Entries.{AtEntry, InEntry}
 use Rattle.log_rows.proofs.NextEntries.{number_held}
-use Rattle.timestamp_reader.proofs.EntryFacts.{of_head}
+use Rattle.change_reader.proofs.EntryFacts.{of_head}
 use Rattle.timestamp_reader.proofs.entries.entry_at_spot.Goals as goal
 
 pub number-n-requires : goal.number-n-requires

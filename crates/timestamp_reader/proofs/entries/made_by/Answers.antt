@@ -1,7 +1,7 @@
 use Rattle.std.proofs.Common.{◌≡◌, arith, subst}
 use Rattle.std.specs.Result.{IfOk}
 use Rattle.record_rows.specs.Readings.{ParentImage}
-use Rattle.timestamp_reader.proofs.EntryFacts.{count_few, first_is, known_ends, made_is, readable_with}
+use Rattle.change_reader.proofs.EntryFacts.{count_few, first_is, known_ends, made_is, readable_with}
 use Rattle.timestamp_reader.proofs.entries.made_by.Goals as goal
 
 pub overflow_add-n : goal.overflow_add-n

@@ -1,6 +1,6 @@
 use Rattle.std.proofs.Common.{◌≡◌, ◌∙◌, subst}
 use Rattle.std.specs.Result.{IfOk}
-use Rattle.timestamp_reader.proofs.EntryFacts.{known_ends, readable_before, retired_is, retired_none}
+use Rattle.change_reader.proofs.EntryFacts.{known_ends, readable_before, retired_is, retired_none}
 use Rattle.timestamp_reader.proofs.entries.retired_by.Goals as goal
 
 pub roots_of-requires : goal.roots_of-requires

@@ -30,13 +30,13 @@ use Rattle.record_rows.proofs.NodeOrder.{nodes_rows, node_all}
 use Rattle.record_rows.proofs.NodePlaces.{known, known_later}
 use Rattle.record_rows.proofs.PrefixNodes.{prefix_parts}
 use Rattle.node_reader.proofs.ChildRows.{any_has}
-use Rattle.timestamp_reader.proofs.FirstWalks.{none_passes, stands_there}
+use Rattle.change_reader.proofs.RowSearches.{none_passes, stands_there}
 use Rattle.node_reader.proofs.LeafLaws.{made_fresh, made_here, leaves_from}
 use Rattle.node_reader.proofs.LeafMeaning.{node_id_layer}
 use Rattle.node_reader.proofs.NodeLeaves.{Born, news_born, later_other}
 
 -- of two ways to end a list, the shorter one ends the longer
-ends_in : {X : Type 0} (vs bs cs ds : List X) → vs ++ bs ≡ cs ++ ds → length ds ≤ length bs → (ms : List X) × (bs ≡ ms ++ ds)
+pub ends_in : {X : Type 0} (vs bs cs ds : List X) → vs ++ bs ≡ cs ++ ds → length ds ≤ length bs → (ms : List X) × (bs ≡ ms ++ ds)
 ends_in [] bs cs ds q l = (cs, q)
 ends_in (v ∷ vs) bs [] ds q l = absurd (let n : length (v ∷ vs) + length bs ≡ length ds = sym (length-append (v ∷ vs) bs) ∙ ap length q in omega arith)
 ends_in (v ∷ vs) bs (c ∷ cs) ds q l = let r : vs ++ bs ≡ cs ++ ds = cc in ends_in vs bs cs ds r l
@@ -89,11 +89,6 @@ module _ (d : Dataset) (b : Base) (valid : IsDataset d) (base : IsBase d b) wher
   node_timed [] legal p n h = absurd legal
   node_timed (e ∷ log) legal p n h = node_all (Timed d b (e ∷ log)) (rows_of d b (e ∷ log)) p n (subst (AllByRecursion (Timed d b (e ∷ log))) (sym (nodes_rows d b (e ∷ log))) (all_timed e log legal)) h
 
-  -- the id of a root tells the top layer
-  root_layer : (r : ℕ) → is_root_id d r ≡ true → (parts_of d.layout r).layer ≡ top d
-  unfolding is_root_id
-  root_layer r h = eqb-true _ _ (and_parts _ _ (and_parts _ _ (and_parts _ _ (and_parts _ _ h).0).0).0).0
-
   -- the node of a root's id, with the entry that made it
   pub record RootBy (log : List Entry) (r : ℕ) (n : Node) : Type 0 where
     pub timed : Timed d b log n
@@ -102,7 +97,7 @@ module _ (d : Dataset) (b : Base) (valid : IsDataset d) (base : IsBase d b) wher
     pub fresh : is_new d b (timed.entry ∷ timed.older) (top d) timed.born.supervoxel ≡ true
     pub holds : n.leaves ≡ component d b (timed.entry ∷ timed.older) (top d) timed.born.supervoxel
 
-  root_by : (log : List Entry) → Legal d b log → (r p : ℕ) (n : Node) → is_root_id d r ≡ true → HoldsNode d b log p n → n.id ≡ r → RootBy log r n
+  pub root_by : (log : List Entry) → Legal d b log → (r p : ℕ) (n : Node) → (parts_of d.layout r).layer ≡ top d → HoldsNode d b log p n → n.id ≡ r → RootBy log r n
   unfolding root
   root_by log legal r p n i h e =
       let t = node_timed log legal p n h in
@@ -110,7 +105,7 @@ module _ (d : Dataset) (b : Base) (valid : IsDataset d) (base : IsBase d b) wher
       let v : ℕ = t.born.supervoxel in
       let old : Legal d b w = legal_prefix d b t.newer t.entry t.older (subst (Legal d b) t.whole legal) in
       let named : r ≡ node d b w t.born.layer v = sym e ∙ t.born.named in
-      let q : t.born.layer ≡ top d = sym (node_id_layer d b valid base t.entry t.older old t.born.layer v t.born.layered t.born.known) ∙ (ap (λ x. (parts_of d.layout x).layer) (sym named) ∙ root_layer r i) in
+      let q : t.born.layer ≡ top d = sym (node_id_layer d b valid base t.entry t.older old t.born.layer v t.born.layered t.born.known) ∙ (ap (λ x. (parts_of d.layout x).layer) (sym named) ∙ i) in
       record {
         timed = t;
         legal = old;
@@ -174,8 +169,13 @@ module _ (d : Dataset) (b : Base) (valid : IsDataset d) (base : IsBase d b) wher
       let k = known_later d b valid base (s.0 ++ p.0) (e ∷ older) (node d b (e ∷ older) (top d) f.0) (known d b valid base e older old (top d) f.0 (top_in_layers d) f.1) in
       any_has r (rows_of d b log) (subst (λ l. list_any (is_node r) (rows_of d b l) ≡ true) (sym whole) (subst (λ x. list_any (is_node x) (rows_of d b ((s.0 ++ p.0) ++ e ∷ older)) ≡ true) named k))
 
+-- the id of a root tells the top layer
+pub root_layer : (d : Dataset) (r : ℕ) → is_root_id d r ≡ true → (parts_of d.layout r).layer ≡ top d
+unfolding is_root_id
+root_layer d r h = eqb-true _ _ (and_parts _ _ (and_parts _ _ (and_parts _ _ (and_parts _ _ h).0).0).0).0
+
 -- What the search for a root's id tells, at a prefix of a log that words tell of.
-module _ (d : Dataset) (b : Base) (log : List Entry) (words : List ℕ) (i : ParentImage d b log words) (r : ℕ) (form : is_root_id d r ≡ true) where
+module _ (d : Dataset) (b : Base) (log : List Entry) (words : List ℕ) (i : ParentImage d b log words) (r : ℕ) (form : (parts_of d.layout r).layer ≡ top d) where
   skips : has_id r (HeaderRow d (length b.supervoxels) (length (chunks d b))) ≡ false
   unfolding has_id
   skips = refl
@@ -190,7 +190,7 @@ module _ (d : Dataset) (b : Base) (log : List Entry) (words : List ℕ) (i : Par
       from (SupervoxelRow v) g t =
           absurd (let q : v ≡ r = eqb-true v r t in
           let one : (parts_of d.layout v).layer ≡ 1 = supervoxel_layer d b i.dataset i.base log words i p v g in
-          let two : (parts_of d.layout v).layer ≡ top d = ap (λ x. (parts_of d.layout x).layer) q ∙ root_layer d b i.dataset i.base r form in
+          let two : (parts_of d.layout v).layer ≡ top d = ap (λ x. (parts_of d.layout x).layer) q ∙ form in
           let low = top_low d.grid in
           omega arith)
       from row g t = absurd (false≢true t)

@@ -22,10 +22,11 @@ use Rattle.op_model.proofs.HistoryLemmas.{legal_prefix}
 use Rattle.op_model.proofs.KnownLemmas.{legal_known}
 use Rattle.op_model.proofs.MadeLemmas.{root_same}
 use Rattle.record_rows.proofs.EntryRecords.{number_told}
-use Rattle.record_rows.proofs.ImageFacts.{few}
+use Rattle.record_rows.specs.Readings.{Image}
+use Rattle.record_rows.proofs.ImageFacts.{few, parent_image}
 use Rattle.record_rows.proofs.RowFacts.{entries_few}
 use Rattle.node_reader.specs.Readable.{AreKnown, IsReadable}
-use Rattle.timestamp_reader.specs.Places.{IsChangedBy}
+use Rattle.change_reader.specs.Walks.{IsChangedBy, IsInner}
 
 -- a log with an entry in it
 pub record Stand (log : List Entry) (n : ℕ) (e : Entry) : Type 0 where
@@ -172,3 +173,19 @@ of_head n h e a cs retired made q w x y z m =
     ∙ (ap (λ k. record { number = e.number; client = e.client; line = e.line; at = e.at; asked = e.asked; changed = k; retired = retired; made = made }) y
     ∙ (ap (λ k. record { number = e.number; client = e.client; line = e.line; at = e.at; asked = e.asked; changed = e.changed; retired = k; made = made }) z
     ∙ ap (λ k. record { number = e.number; client = e.client; line = e.line; at = e.at; asked = e.asked; changed = e.changed; retired = e.retired; made = k }) m))))
+
+-- What is read at an entry that has others before it.
+module _ (d : Dataset) (b : Base) (log : List Entry) (words : List ℕ) (n : ℕ) (i : IsInner d b log words n) where
+  pub inner_few : n + 1 < 2 ^ 32
+  inner_few = let l = i.high in let m = entries_few d b log in let f = few d b log words i.image in omega (arith, l, m, f)
+
+  pub inner_before : IsReadable d b log words n
+  inner_before = record { image = i.image; low = i.low; high = (let l = i.high in omega (arith, l)) }
+
+  pub inner_after : IsReadable d b log words (n + 1)
+  inner_after = record { image = i.image; low = omega arith; high = (let l = i.high in omega (arith, l)) }
+
+-- an entry that isn't the first has others before it
+pub is_inner : (d : Dataset) (b : Base) (log : List Entry) (words : List ℕ) (n : ℕ) → Image d b log words → (n ≡ 0 → ⊥) → n < length log → IsInner d b log words n
+is_inner d b log words zero i other l = absurd (other refl)
+is_inner d b log words (suc n) i other l = record { image = parent_image d b log words i; low = omega arith; high = l }

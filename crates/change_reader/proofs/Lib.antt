@@ -1,0 +1,11 @@
+pub mod RowSearches
+pub mod IdSearches
+pub mod EntryFacts
+pub mod MadeRoots
+pub mod RootFacts
+pub mod EntryPlaces
+pub mod RootRows
+pub mod EndRows
+pub mod Waiting
+pub mod Linked
+pub mod WalkSteps
