@@ -1,3 +1,3 @@
-pub mod Drafting
-pub mod Planning
-pub mod Reading
+pub mod DraftFacts
+pub mod PlanFacts
+pub mod ReadFacts
