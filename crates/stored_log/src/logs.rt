@@ -1,6 +1,6 @@
 //! The words of a log, with a draft that waits.
 
-ghost use Rattle.std.specs.Prelude.{◌≡◌, ◌≤◌, ◌*◌, ◌+◌, None, List, length};
+ghost use Rattle.std.specs.Prelude.{◌≡◌, ◌≤◌, ◌*◌, ◌+◌, List, length};
 ghost use Rattle.op_model.specs.declared.base.Base.{Base};
 ghost use Rattle.op_model.specs.declared.entry.Entry.{Entry};
 ghost use Rattle.record_rows.specs.Readings.{Image};

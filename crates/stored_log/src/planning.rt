@@ -4,7 +4,6 @@ ghost use Rattle.std.specs.Prelude.{◌≡◌};
 ghost use Rattle.record_rows.specs.Readings.{ForEachLog, Image};
 ghost use Rattle.log_rows.specs.Entries.{HasLog};
 ghost use Rattle.client_events.specs.Calls.{Locks, Planned};
-ghost use Rattle.root_masks.specs.Plans.{AnswersLocks, AnswersPlan};
 ghost use Rattle.stored_log.specs.Forms.{IsOf};
 
 use op_model::{Dataset, Edit, Plan, Refusal};
@@ -12,7 +11,7 @@ use pcg_base::Words;
 use std::alloc::Global;
 
 /// Which crate answers an edit.
-#[derive(Clone, Copy, PartialEq, Eq, Drop)]
+#[derive(Clone, Copy, Drop)]
 pub enum Form {
     /// A merge.
     Merge,
