@@ -25,8 +25,5 @@ pub(crate) fn reply<W: Words>(alloc: Global, w: &mut W, read: &Read) -> Reply
     ensures same { w.new ≡ w.old }
     ensures is { ForEachLog Image (W.words w.old) (λ d b log. Answers d b log read.now result) }
 {
-    match read {
-        Read::Changes { .. } => Reply::NoMemory,
-        _ => answer(alloc, w, read),
-    }
+    answer(alloc, w, read)
 }
