@@ -1,4 +1,4 @@
-mod Committed
+pub mod Committed
 mod Counts
 mod Draftings
 mod EntryFacts

@@ -1,6 +1,6 @@
 //! An entry put into the words.
 
-ghost use Rattle.std.specs.Prelude.{◌≡◌, ◌∷◌, ◌*◌, ◌+◌, ◌-◌, ◌≤◌, List, length, IfErr, OnOk, OnErr};
+ghost use Rattle.std.specs.Prelude.{◌≡◌, ◌∷◌, ◌*◌, ◌+◌, ◌-◌, ◌≤◌, List, length, IfErr, IfOk, OnOk, OnErr};
 ghost use Rattle.op_model.specs.declared.base.Base.{Base};
 ghost use Rattle.op_model.specs.declared.entry.Entry.{Entry};
 ghost use Rattle.op_model.specs.Legal.{LegalPlan};
@@ -25,7 +25,8 @@ fn put(w: &mut VecWords, dataset: &Dataset, plan: &Plan, stamp: Stamp, remade: &
     apply(w, &remade.draft);
 }
 
-/// Appends the entry of a legal plan to the words of a log, if nothing refuses it.
+/// Appends the entry of a legal plan to the words of a log, if nothing refuses it, and tells its
+/// number, timestamp and roots with the draft that was put.
 ///
 /// # Errors
 ///
@@ -41,6 +42,8 @@ pub fn commit(
     requires room { 8 * dataset.now.capacity ≤ length w.old.words + w.old.spare }
     ensures image { (b : Base) (log : List Entry) → Image dataset.now b log w.old.words → LegalPlan dataset.now b log plan.now.edit plan.now.changed
         → OnOk result (Image dataset.now b (entry_for dataset.now b log plan.now.edit stamp ∷ log) w.new.words) }
+    ensures remade { (b : Base) (log : List Entry) → Image dataset.now b log w.old.words → LegalPlan dataset.now b log plan.now.edit plan.now.changed
+        → IfOk result (IsRemade dataset.now b log plan.now.edit stamp) }
     ensures refused { (b : Base) (log : List Entry) → Image dataset.now b log w.old.words → LegalPlan dataset.now b log plan.now.edit plan.now.changed
         → IfErr result (IsLate dataset.now b log plan.now.edit) }
     ensures kept { OnErr result (w.new ≡ w.old) }

@@ -1,0 +1,3 @@
+pub mod DraftFacts
+pub mod PlanFacts
+pub mod ReadFacts

@@ -1,0 +1,13 @@
+-- Which crate answers an edit.
+use Rattle.op_model.specs.declared.request.Edit.{Edit}
+use Rattle.edit_merge.specs.Plans.{IsMerge}
+use Rattle.edit_split.specs.Marks.{IsSplit}
+use Rattle.undo_redo.specs.Turns.{IsTurn}
+use Rattle.stored_log.specs.declared.planning.Form.{Form}
+use Rattle.stored_log.specs.declared.planning.Form.TheVariants as form
+
+-- the edit is of this form
+abbrev pub IsOf : Edit → Form → Type 0
+IsOf edit form.Merge = IsMerge edit
+IsOf edit form.Split = IsSplit edit
+IsOf edit form.Turn = IsTurn edit
