@@ -1,0 +1,4 @@
+pub mod Places
+pub mod EventReplies
+pub mod Sinks
+pub mod WrittenRuns
