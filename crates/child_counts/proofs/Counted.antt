@@ -14,7 +14,7 @@ use Rattle.op_model.specs.Edges.{linked}
 use Rattle.op_model.specs.Labels.{component, edges, is_new, least, new_among}
 use Rattle.op_model.specs.Records.{children, total}
 use Rattle.op_model.specs.Valid.{IsAscending, IsBase, IsDataset}
-use Rattle.op_model.proofs.LabelLemmas.{least_component, least_same, own_component, same_component}
+use Rattle.op_model.proofs.LabelLemmas.{least_component, least_same, new_same, own_component, same_component}
 use Rattle.op_model.proofs.LegalLemmas.{map_has}
 use Rattle.op_model.proofs.MadeLemmas.{map_only}
 use Rattle.layer_laws.specs.Building.{at, least_leaf}
@@ -26,8 +26,8 @@ use Rattle.record_rows.proofs.OnceLemmas.{ascending_differ}
 use Rattle.record_rows.proofs.SumLemmas.{parted, total_ones, total_same}
 use Rattle.entry_parts.specs.declared.made.MadeNode.{MadeNode}
 use Rattle.entry_parts.specs.Made.{AreMadeIn}
-use Rattle.entry_parts.specs.Parts.{AreFirstsOf, IsWhole}
-use Rattle.child_counts.specs.Counting.{is_counted}
+use Rattle.entry_parts.specs.Parts.{AreFirstsOf}
+use Rattle.child_counts.specs.Counting.{HoldsChildren, is_counted}
 use Rattle.child_counts.proofs.NewLeasts.{least_is_new, least_there}
 
 -- one test behind another
@@ -78,7 +78,7 @@ in_range a (suc n) i h = elim (has_cases a (range_with_len (a + 1) n) i h) [ inl
 component_ascends : (links : ℕ → ℕ → Bool) (all : List ℕ) (u : ℕ) → IsAscending all → IsAscending (component_of links all u)
 component_ascends links all u a = let f = component_filter links all u in subst (λ xs. IsAscending xs) (sym f.1) (filter_ascending f.0 all a)
 
-module _ (d : Dataset) (b : Base) (valid : IsDataset d) (base : IsBase d b) (log : List Entry) (e : Entry) (ids : List ℕ) (layer : ℕ) (two : 2 ≤ layer) (is : IsWhole d b (e ∷ log) ids) where
+module _ (d : Dataset) (b : Base) (valid : IsDataset d) (base : IsBase d b) (log : List Entry) (e : Entry) (ids : List ℕ) (layer : ℕ) (two : 2 ≤ layer) (is : HoldsChildren d b (e ∷ log) layer ids) where
   abbrev whole : List Entry
   whole = e ∷ log
 
@@ -91,30 +91,49 @@ module _ (d : Dataset) (b : Base) (valid : IsDataset d) (base : IsBase d b) (log
   abbrev news : List ℕ
   news = new_among d b whole layer b.supervoxels
 
-  -- the leaves of a node are those of its least leaf
-  component_is : (v : ℕ) → has ids v ≡ true → key v ≡ v → component d b whole layer v ≡ filter (λ w. eqb (key w) v) ids
+  not_two : (layer ≡ 2 → ⊥) → 2 < layer
+  not_two n = elim (cases_lt 2 layer) [ inl a ↦ a | inr a ↦ absurd (n (let t = two in let z : layer ≡ 2 = omega (arith, t, a) in z)) ]
+
+  -- a leaf that stands for a child is the least of it
+  kept_leaf : (w : ℕ) → keep w ≡ true → least_leaf d b whole (layer - 1) w ≡ w
+  unfolding least least_leaf leaves head_or
+  kept_leaf w k = go (eqb layer 2) refl k
+    where
+      go : (t : Bool) → eqb layer 2 ≡ t → cond t true (eqb (least d b whole (layer - 1) w) w) ≡ true → least_leaf d b whole (layer - 1) w ≡ w
+      go true s k = let one : layer - 1 ≡ 1 = let z = eqb-true layer 2 s in omega (arith, z) in ap (λ k. head_or w (cond (leb k 1) (w ∷ []) (component d b whole k w))) one
+      go false s k =
+          let n : layer ≡ 2 → ⊥ = eqb-false layer 2 s in
+          let high : leb (layer - 1) 1 ≡ false = lt-leb (layer - 1) 1 (let z = not_two n in omega (arith, z)) in
+          ap (head_or w) (cond-false (leb (layer - 1) 1) (w ∷ []) (component d b whole (layer - 1) w) high) ∙ eqb-true (least d b whole (layer - 1) w) w k
+
+  -- those of a new node that stand for its children are in the list
+  kept_is : (v : ℕ) → has b.supervoxels v ≡ true → key v ≡ v → is_new d b whole layer v ≡ true → filter keep (component d b whole layer v) ≡ filter keep (filter (λ w. eqb (key w) v) ids)
   unfolding component
-  component_is v h l =
-      same_ascending (component d b whole layer v) (filter (λ w. eqb (key w) v) ids)
-      (component_ascends (linked (edges d b whole)) (members d b layer (chunk d layer v)) v (members_ascending d b base.ascending layer (chunk d layer v)))
-      (filter_ascending (λ w. eqb (key w) v) ids is.ascending)
+  kept_is v hv l n =
+      same_ascending (filter keep (component d b whole layer v)) (filter keep (filter (λ w. eqb (key w) v) ids))
+      (filter_ascending keep (component d b whole layer v) (component_ascends (linked (edges d b whole)) (members d b layer (chunk d layer v)) v (members_ascending d b base.ascending layer (chunk d layer v))))
+      (filter_ascending keep (filter (λ w. eqb (key w) v) ids) (filter_ascending (λ w. eqb (key w) v) ids is.ascending))
       (λ w m.
-      let c = of_component d b valid base whole layer v w m in
+      let k = filter_only keep (component d b whole layer v) w m in
+      let c = of_component d b valid base whole layer v w k.0 in
       let same : component d b whole layer w ≡ component d b whole layer v = sym (same_component d b whole layer v w c.1 c.2) in
-      filter_has (λ x. eqb (key x) v) ids w (is.whole layer v w h m) (eq-eqb (key w) v (least_same d b whole layer w v (is.known v h) same ∙ l)))
+      let there = is.children w c.0 (new_same d b whole layer w v same ∙ n) in
+      let h : has ids w ≡ true = subst (λ x. has ids x ≡ true) (kept_leaf w k.1) there in
+      filter_has keep (filter (λ x. eqb (key x) v) ids) w (filter_has (λ x. eqb (key x) v) ids w h (eq-eqb (key w) v (least_same d b whole layer w v hv same ∙ l))) k.1)
       (λ w m.
-      let f = filter_only (λ x. eqb (key x) v) ids w m in
-      let k : key w ≡ v = eqb-true (key w) v f.1 in
-      let same : component d b whole layer v ≡ component d b whole layer w = ap (component d b whole layer) (sym k) ∙ least_component d b whole layer w (is.known w f.0) in
-      subst (λ xs. has xs w ≡ true) (sym same) (own_component d b whole layer w (is.known w f.0)))
+      let k = filter_only keep (filter (λ w. eqb (key w) v) ids) w m in
+      let f = filter_only (λ x. eqb (key x) v) ids w k.0 in
+      let q : key w ≡ v = eqb-true (key w) v f.1 in
+      let same : component d b whole layer v ≡ component d b whole layer w = ap (component d b whole layer) (sym q) ∙ least_component d b whole layer w (is.known w f.0) in
+      filter_has keep (component d b whole layer v) w (subst (λ xs. has xs w ≡ true) (sym same) (own_component d b whole layer w (is.known w f.0))) k.1)
 
   all_true : (xs : List ℕ) → filter (λ x. true) xs ≡ xs
   all_true [] = refl
   all_true (x ∷ xs) = ap (λ ys. x ∷ ys) (all_true xs)
 
-  children_is : (v : ℕ) → has ids v ≡ true → key v ≡ v → children d b whole layer v ≡ length (filter keep (filter (λ w. eqb (key w) v) ids))
+  children_is : (v : ℕ) → has b.supervoxels v ≡ true → key v ≡ v → is_new d b whole layer v ≡ true → children d b whole layer v ≡ length (filter keep (filter (λ w. eqb (key w) v) ids))
   unfolding children
-  children_is v h l = ap (λ vs. cond (eqb layer 2) (length vs) (length (filter (λ w. eqb (least d b whole (layer - 1) w) w) vs))) (component_is v h l) ∙ go (eqb layer 2) (filter (λ w. eqb (key w) v) ids)
+  children_is v h l n = go (eqb layer 2) (component d b whole layer v) ∙ ap length (kept_is v h l n)
     where
       go : (t : Bool) (vs : List ℕ) → cond t (length vs) (length (filter (λ w. eqb (least d b whole (layer - 1) w) w) vs)) ≡ length (filter (λ w. cond t true (eqb (least d b whole (layer - 1) w) w)) vs)
       go true vs = sym (ap length (all_true vs))
@@ -131,15 +150,12 @@ module _ (d : Dataset) (b : Base) (valid : IsDataset d) (base : IsBase d b) (log
         go : (k : ℕ) × (k < length leasts) × (get_or leasts k 0 ≡ p) → p < length ids
         go k = subst (λ x. x < length ids) k.2 (small k.0 0 k.1)
 
-    news_known : (v : ℕ) → has news v ≡ true → (has ids v ≡ true) × (key v ≡ v)
+    news_known : (v : ℕ) → has news v ≡ true → (has b.supervoxels v ≡ true) × (key v ≡ v) × (is_new d b whole layer v ≡ true)
     unfolding new_among
     news_known v h =
         let f = filter_only (λ u. eqb (least d b whole layer u) u && is_new d b whole layer u) b.supervoxels v h in
         let t = and_parts _ _ f.1 in
-        let k : key v ≡ v = eqb-true (key v) v t.0 in
-        let m = least_there d b log e layer nodes v made f.0 k t.1 in
-        let p = map_only (at ids) leasts v (subst (λ xs. has xs v ≡ true) (sym told) m) in
-        (subst (λ x. has ids x ≡ true) p.2 (get_has ids p.0 (least_low p.0 p.1)), k)
+        (f.0, eqb-true (key v) v t.0, t.1)
 
     news_ascend : IsAscending news
     unfolding new_among
@@ -157,7 +173,7 @@ module _ (d : Dataset) (b : Base) (valid : IsDataset d) (base : IsBase d b) (log
         let k = news_known c h in
         total_ones (filter keep (filter (λ w. eqb (key w) c) ours))
         ∙ (ap (λ vs. length (filter keep vs)) (filter_within (λ w. eqb (key w) c) (λ w. has news (key w)) ids (λ w q. subst (λ x. has news x ≡ true) (sym (eqb-true (key w) c q)) h))
-        ∙ sym (children_is c k.0 k.1))
+        ∙ sym (children_is c k.0 k.1 k.2))
 
     all_pieces : (xs : List ℕ) → ((c : ℕ) → has xs c ≡ true → has news c ≡ true) → AllByRecursion (λ c. total (map (λ w. 1) (filter keep (filter (λ w. eqb (key w) c) ours))) ≡ children d b whole layer c) xs
     all_pieces [] f = tt
@@ -218,9 +234,6 @@ module _ (d : Dataset) (b : Base) (valid : IsDataset d) (base : IsBase d b) (log
             let told : get_or ids q 0 ≡ least d b whole (layer - 1) v = lower.leaf i l ∙ ap (head_or v) (cond-false (leb (layer - 1) 1) (v ∷ []) (component d b whole (layer - 1) v) high) in
             same_bool (eqb (least d b whole (layer - 1) v) v) (eqb q i) (λ h. own (told ∙ eqb-true (least d b whole (layer - 1) v) v h))
             (λ h. eq-eqb (least d b whole (layer - 1) v) v (sym told ∙ ap (λ k. get_or ids k 0) (eqb-true q i h)))
-          where
-            not_two : (layer ≡ 2 → ⊥) → 2 < layer
-            not_two n = elim (cases_lt 2 layer) [ inl a ↦ a | inr a ↦ absurd (n (let t = two in let z : layer ≡ 2 = omega (arith, t, a) in z)) ]
 
     pub counted : length (filter (is_counted below firsts leasts) (range_with_len 0 (length ids))) ≡ total (map (children d b whole layer) news)
     counted =

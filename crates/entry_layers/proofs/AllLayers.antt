@@ -1,7 +1,6 @@
 -- The layers up to the top are all that an entry makes.
 use Rattle.std.proofs.Common.{◌≡◌, ◌∙◌, ℕ, ◌-◌, ◌<◌, ◌≤◌, true, List, [], ◌∷◌, length, map, sym, ap, subst, arith}
 use Rattle.graph_model.specs.Lists.{has}
-use Rattle.chunk_geometry.proofs.LayerLemmas.{top_low}
 use Rattle.op_model.specs.declared.base.Base.{Base}
 use Rattle.op_model.specs.declared.base.Dataset.{Dataset}
 use Rattle.op_model.specs.declared.entry.Entry.{Entry}
@@ -20,28 +19,28 @@ use Rattle.entry_parts.specs.Made.{AreLinks, AreMadeIn, told_made}
 use Rattle.entry_layers.specs.declared.gathering.EntryLayers.{EntryLayers}
 use Rattle.entry_layers.specs.declared.layering.LayerBelow.{LayerBelow}
 use Rattle.entry_layers.specs.Gathered.{AreEntryLayers, AreGathered, told_spent}
-use Rattle.entry_layers.specs.Layering.{AreLayersTo, IsEntryPart}
+use Rattle.entry_layers.specs.Layering.{AreLayersTo, IsEntryList}
 use Rattle.entry_layers.proofs.NewRoots.{roots_are}
 
-module _ (d : Dataset) (b : Base) (e : Entry) (words : List ℕ) (part : Base) (places : List ℕ) where
+module _ (d : Dataset) (b : Base) (e : Entry) (words ids places : List ℕ) (high : 2 ≤ top d) where
   -- the ends of the changed pairs are supervoxels of the base
-  ends_known : (log : List Entry) → IsEntryPart d b log e words part places → (u : ℕ) → has (ends e.changed) u ≡ true → has b.supervoxels u ≡ true
+  ends_known : (log : List Entry) → IsEntryList d b log e words ids places → (u : ℕ) → has (ends e.changed) u ≡ true → has b.supervoxels u ≡ true
   ends_known log is u h =
-      let p = map_only (at part.supervoxels) places u ((is.ends_at.all u).0 h) in
-      let l = all_has (λ q. q < length part.supervoxels) places p.0 (recursion_from_All (λ q. q < length part.supervoxels) places is.ends_at.small) p.1 in
-      is.part_is.known u (subst (λ x. has part.supervoxels x ≡ true) p.2 (get_has part.supervoxels p.0 l))
+      let p = map_only (at ids) places u ((is.ends_at.all u).0 h) in
+      let l = all_has (λ q. q < length ids) places p.0 (recursion_from_All (λ q. q < length ids) places is.ends_at.small) p.1 in
+      (is.holds 2 (omega arith) high).known u (subst (λ x. has ids x ≡ true) p.2 (get_has ids p.0 l))
 
   -- the ids of the top layer's nodes are the roots
-  top_roots : (log : List Entry) (below : LayerBelow) → IsEntryPart d b log e words part places → AreMadeIn d b log e (top d) below.made.nodes.items
+  top_roots : (log : List Entry) (below : LayerBelow) → IsEntryList d b log e words ids places → AreMadeIn d b log e (top d) below.made.nodes.items
       → ascending (map (λ m. m.id) below.made.nodes.items) ≡ ascending (map (root d b (e ∷ log)) (ends e.changed))
   top_roots [] below is are = absurd is.image.legal
   top_roots (f ∷ log) below is are = roots_are d b is.image.dataset is.image.base e f log (ends_known (f ∷ log) is) below.made.nodes.items are
 
-  pub all_layers : (log : List Entry) (n : ℕ) (all x : EntryLayers) (below : LayerBelow) → IsEntryPart d b log e words part places → n ≡ top d - 1 → AreLayersTo d b log e part n all below
+  pub all_layers : (log : List Entry) (n : ℕ) (all x : EntryLayers) (below : LayerBelow) → IsEntryList d b log e words ids places → n ≡ top d - 1 → AreLayersTo d b log e ids n all below
       → x.nodes ≡ all.nodes → x.links ≡ all.links → x.spent ≡ all.spent → x.roots ≡ ascending (map (λ m. m.id) below.made.nodes.items) → AreEntryLayers d b log e x
   unfolding new_nodes new_links child_count layers top
   all_layers log n all x below is last to nodes links spent roots =
-      let two : 2 ≤ top d = top_low d.grid in
+      let two : 2 ≤ top d = high in
       let g = subst (λ k. AreGathered d b log e k all) last to.gathered in
       record {
         nodes = ap (λ v. map told_made v.items) nodes ∙ g.nodes;

@@ -1,5 +1,6 @@
+mod Holding
 mod LastNodes
 mod LayerSteps
 mod NewRoots
 mod Rounds
-mod AllLayers
+pub mod AllLayers

@@ -15,5 +15,6 @@ mod gathering;
 mod layering;
 mod roots;
 
-pub use gathering::{EntryLayers, SpentChunk};
-pub use layering::entry_layers;
+pub use gathering::{EntryLayers, SpentChunk, begin};
+pub use layering::{LayerBelow, add_layer, entry_layers, lowest};
+pub use roots::ids_of_made;

@@ -1,6 +1,5 @@
 -- With the entry of a legal plan that neither the store, the ids nor the clock refuse the log is legal, and takes no more records than there is room for.
-use Rattle.std.proofs.Common.{◌≡◌, ℕ, ◌+◌, ◌-◌, ◌*◌, ◌^◌, ◌<◌, ◌≤◌, Bool, true, false, cond, ltb, eqb, List, [], ◌∷◌, ◌++◌, length, max, min, length-append, Option, Some, None, refl, sym, ◌∙◌, ap, subst, arith}
-use Rattle.std.specs.List.{AllByRecursion}
+use Rattle.std.proofs.Common.{◌≡◌, ℕ, ◌+◌, ◌-◌, ◌*◌, ◌^◌, ◌<◌, ◌≤◌, Bool, true, false, List, [], ◌∷◌, ◌++◌, length, max, min, length-append, None, refl, sym, ◌∙◌, ap, subst, arith}
 use Rattle.std.proofs.lemmas.Bool.{ltb-false, eqb-false}
 use Rattle.std.proofs.Math.Nat.{le-max_right, max-le, min-le_right}
 use Rattle.op_model.specs.declared.base.Dataset.{Dataset}
@@ -15,19 +14,17 @@ use Rattle.op_model.specs.Edges.{edges_after}
 use Rattle.op_model.specs.Labels.{edges, component, least, is_new, new_among}
 use Rattle.op_model.specs.Operations.{entry_of, next_entry}
 use Rattle.op_model.specs.Records.{children, made_count, child_count, unknown_count, entry_records, records, spare, need}
-use Rattle.op_model.specs.Refusals.{refuse_if, first_of, refuse_early, refuse_cut, refuse_late, refuse_edit, refused, last_at}
+use Rattle.op_model.specs.Refusals.{refuse_if, first_of, refuse_late, refuse_edit, refused, last_at}
 use Rattle.op_model.specs.Legal.{Follows, Legal, LegalPlan}
 use Rattle.op_model.specs.Stamps.{stamp}
 use Rattle.op_model.proofs.LegalLemmas.{first_none}
 use Rattle.record_rows.specs.Rows.{Row}
 use Rattle.record_rows.specs.LogRows.{rows_of, entry_rows}
 use Rattle.record_rows.specs.Words.{words_of}
-use Rattle.record_rows.specs.Readings.{Image, HasNumbers}
+use Rattle.record_rows.specs.Readings.{Image}
 use Rattle.record_rows.proofs.CountLemmas.{entry_count}
-use Rattle.record_rows.proofs.BaseCounts.{counted}
 use Rattle.record_rows.proofs.TellLemmas.{length-words_of}
 use Rattle.row_words.specs.Drafts.{applied}
-use Rattle.grown_rows.specs.Drafted.{IsDrafted}
 use Rattle.hierarchy_edit.specs.declared.remaking.Stamp.{Stamp}
 use Rattle.hierarchy_edit.specs.declared.remaking.Remade.{Remade}
 use Rattle.hierarchy_edit.specs.Remade.{entry_for, IsRemade}

@@ -1,12 +1,11 @@
 -- When the draft of an entry that nothing refuses can be made from what it is made of.
-use Rattle.std.proofs.Common.{◌≡◌, ℕ, ◌+◌, ◌≤◌, List, ◌∷◌, None, sym, subst, arith}
+use Rattle.std.proofs.Common.{◌≡◌, ℕ, List, None, sym, subst, arith}
 use Rattle.op_model.specs.declared.base.Dataset.{Dataset}
 use Rattle.op_model.specs.declared.base.Base.{Base}
 use Rattle.op_model.specs.declared.entry.Changed.{Changed}
 use Rattle.op_model.specs.declared.entry.Entry.{Entry}
 use Rattle.op_model.specs.declared.request.Edit.{Edit}
 use Rattle.op_model.specs.Legal.{LegalPlan}
-use Rattle.op_model.specs.Records.{records}
 use Rattle.op_model.specs.Refusals.{refuse_late}
 use Rattle.op_model.specs.Stamps.{stamp}
 use Rattle.op_model.proofs.LegalLemmas.{first_none}
@@ -17,7 +16,6 @@ use Rattle.entry_lists.specs.Drafting.{IsDrafting}
 use Rattle.hierarchy_edit.specs.declared.listing.Listed.{Listed}
 use Rattle.hierarchy_edit.specs.declared.remaking.Stamp.{Stamp}
 use Rattle.hierarchy_edit.specs.Listed.{IsListed, refuse_ids}
-use Rattle.hierarchy_edit.specs.Remade.{entry_for}
 use Rattle.hierarchy_edit.proofs.Committed.{grown_count, legal, room}
 
 no_ids : (d : Dataset) (b : Base) (log : List Entry) (edit : Edit) → refuse_late d b log edit ≡ None → refuse_ids d b log edit ≡ None

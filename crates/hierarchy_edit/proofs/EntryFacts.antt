@@ -1,5 +1,6 @@
 -- What an entry is made of, from what the log, the paths and the layers tell.
-use Rattle.std.proofs.Common.{◌≡◌, ℕ, ◌+◌, leb, List, [], ◌∷◌, length, map, Option, Some, None, option_map, refl, sym, ◌∙◌, ap, subst, arith}
+use Rattle.std.proofs.lemmas.Bool.{eqb-true, false≢true}
+use Rattle.std.proofs.Common.{◌≡◌, ℕ, ◌+◌, leb, true, false, eqb, eq-eqb, get_or, List, [], ◌∷◌, length, map, Option, Some, None, option_map, refl, sym, ◌∙◌, ap, subst, arith}
 use Rattle.std.specs.List.{AllByRecursion, find, flat_map}
 use Rattle.std.specs.Option.{option_map_or}
 use Rattle.node_ids.specs.Ids.{segments}
@@ -15,7 +16,7 @@ use Rattle.op_model.specs.Cuts.{PairsAscend}
 use Rattle.op_model.specs.Edges.{edges_after}
 use Rattle.op_model.specs.Labels.{component, edges, is_new, label, least, new_among, node, rank, root, used}
 use Rattle.op_model.specs.Laws.{IsKnown}
-use Rattle.op_model.specs.Legal.{LegalPlan}
+use Rattle.op_model.specs.Legal.{Legal, LegalPlan}
 use Rattle.op_model.specs.Operations.{ascending, change, ends, entry_of, next_entry}
 use Rattle.op_model.specs.Records.{child_count, entry_records, items, made_count, need, unknown_count}
 use Rattle.op_model.specs.Refusals.{refuse_first}
@@ -34,7 +35,9 @@ use Rattle.entry_layers.specs.Gathered.{AreEntryLayers, is_spent, layer_places, 
 use Rattle.entry_layers.specs.Layering.{IsEntryPart}
 use Rattle.hierarchy_edit.specs.declared.standing.LogState.{LogState}
 use Rattle.new_ids.proofs.PairOrder.{changed_ascend}
-use Rattle.hierarchy_edit.specs.Listed.{IsListed, IsLogState, refuse_chunk, refuse_ids}
+use Rattle.unite_laws.specs.Uniting.{HaveState}
+use Rattle.unite_laws.proofs.StateLemmas.{edit_state}
+use Rattle.hierarchy_edit.specs.Listed.{IsListed, IsLogState, is_uniting, refuse_chunk, refuse_ids}
 use Rattle.hierarchy_edit.proofs.PlanKnown.{plan_known}
 
 -- an entry that changes these pairs
@@ -52,6 +55,24 @@ entry_part d b log e words part places changed image part_is at q = record {
   part_is = part_is;
   ends_at = subst (λ cs. AreEndsAt part.supervoxels cs places) (sym q) at;
 }
+
+-- the first of some changed pairs tells
+pub first_tells : (cs : List Changed) (x : Changed) → eqb (length cs) 0 ≡ false → (get_or cs 0 x).active ≡ is_uniting cs
+unfolding is_uniting
+first_tells [] x e = absurd (false≢true (sym e ∙ eq-eqb 0 0 refl))
+first_tells (c ∷ more) x e = refl
+
+pub none_unite : (cs : List Changed) → eqb (length cs) 0 ≡ true → false ≡ is_uniting cs
+unfolding is_uniting
+none_unite [] e = refl
+none_unite (c ∷ more) e = absurd (let z : length (c ∷ more) ≡ 0 = eqb-true (length (c ∷ more)) 0 e in omega (arith, z))
+
+-- a plan whose first pair becomes active makes all of its pairs active
+pub uniting_state : (d : Dataset) (b : Base) (log : List Entry) (edit : Edit) (changed : List Changed) → Legal d b log → LegalPlan d b log edit changed → is_uniting changed ≡ true → HaveState true changed
+unfolding is_uniting
+uniting_state d b log edit [] legal plan t = absurd (false≢true t)
+uniting_state d b log edit (c ∷ more) legal plan t =
+    subst (λ on. HaveState on (c ∷ more)) t (subst (HaveState c.active) (sym plan.2) (edit_state d b log edit c more legal (sym plan.2)))
 
 as_option : {A B : Type 0} (f : A → B) (o : Option A) → option_map_or (λ x. Some (f x)) o None ≡ option_map f o
 as_option f None = refl

@@ -1,6 +1,6 @@
 -- A legal plan changes pairs of supervoxels.
-use Rattle.std.proofs.Common.{◌≡◌, ◌∙◌, eq-eqb, lt-ltb, ℕ, Bool, true, false, cond, not, eqb, ltb, List, [], ◌∷◌, map, refl, sym, ap, subst, inl, inr, Option, Some, None, arith}
-use Rattle.std.specs.List.{AllByRecursion, filter, find, list_any}
+use Rattle.std.proofs.Common.{◌≡◌, ◌∙◌, eq-eqb, lt-ltb, ℕ, Bool, true, false, cond, not, eqb, ltb, List, [], ◌∷◌, map, refl, sym, ap, subst, inl, inr, Some, None, arith}
+use Rattle.std.specs.List.{AllByRecursion, find, list_any}
 use Rattle.std.specs.Option.{option_map_or}
 use Rattle.std.proofs.lemmas.Bool.{and_parts, cases_order, cond_both, eqb-true, false≢true, ltb-true, or_cases}
 use Rattle.op_model.specs.declared.base.Base.{Base}

@@ -1,26 +1,23 @@
 -- What refuses an entry, and what is told of one that nothing refuses, from what is found out about it.
-use Rattle.std.proofs.Common.{◌≡◌, ℕ, ◌+◌, ◌-◌, ◌^◌, ◌<◌, ltb, eqb, List, [], ◌∷◌, length, max, min, Option, Some, None, refl, sym, ◌∙◌, ap, subst}
+use Rattle.std.proofs.Common.{◌≡◌, ℕ, ◌+◌, ◌-◌, ◌^◌, ltb, eqb, List, [], ◌∷◌, max, min, Option, Some, None, refl, sym, ◌∙◌, ap, subst}
 use Rattle.op_model.specs.declared.base.Dataset.{Dataset}
 use Rattle.op_model.specs.declared.base.Base.{Base}
 use Rattle.op_model.specs.declared.request.Edit.{Edit}
-use Rattle.op_model.specs.declared.entry.Changed.{Changed}
 use Rattle.op_model.specs.declared.entry.Entry.{Entry}
 use Rattle.op_model.specs.declared.reply.Refusal.{Refusal}
 use Rattle.op_model.specs.declared.reply.Refusal.TheVariants.{StoreFull, ClockEnd, NoMemory}
 use Rattle.op_model.specs.Edges.{edges_after}
 use Rattle.op_model.specs.Labels.{edges, component, least, is_new, new_among, rank, used, label, node, root}
 use Rattle.op_model.specs.Operations.{entry_of, next_entry}
-use Rattle.op_model.specs.Refusals.{refuse_if, first_of, refuse_late, last_at}
-use Rattle.op_model.specs.Legal.{Legal}
+use Rattle.op_model.specs.Refusals.{refuse_if, first_of, refuse_late}
 use Rattle.op_model.specs.Stamps.{stamp}
 use Rattle.record_rows.specs.LogRows.{rows_of, entry_rows}
 use Rattle.row_words.specs.Drafts.{DraftRows}
 use Rattle.grown_rows.specs.Drafted.{IsDrafted}
 use Rattle.hierarchy_edit.specs.declared.remaking.Stamp.{Stamp}
-use Rattle.hierarchy_edit.specs.declared.remaking.Remade.{Remade}
 use Rattle.hierarchy_edit.specs.declared.listing.Listed.{Listed}
 use Rattle.hierarchy_edit.specs.Listed.{IsListed}
-use Rattle.hierarchy_edit.specs.Remade.{entry_for, IsRemade, IsLate}
+use Rattle.hierarchy_edit.specs.Remade.{IsRemade, IsLate}
 
 pub is_late : (d : Dataset) (b : Base) (log : List Entry) (edit : Edit) (r : Refusal) → refuse_late d b log edit ≡ Some r → IsLate d b log edit r
 is_late d b log edit NoMemory e = tt

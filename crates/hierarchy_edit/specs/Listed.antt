@@ -1,6 +1,6 @@
 -- What is found out about an entry before its draft is made.
-use Rattle.std.specs.Prelude.{◌≡◌, ℕ, ◌∷◌, nat_le, List, None, length, map, Option}
-use Rattle.std.specs.List.{find, flat_map}
+use Rattle.std.specs.Prelude.{◌≡◌, ℕ, [], ◌∷◌, nat_le, Bool, false, List, None, length, map, Option}
+use Rattle.std.specs.List.{flat_map}
 use Rattle.node_ids.specs.Ids.{parts_of, segments}
 use Rattle.op_model.specs.declared.base.Dataset.{Dataset}
 use Rattle.op_model.specs.declared.base.Base.{Base}
@@ -18,6 +18,11 @@ use Rattle.entry_parts.specs.Made.{AreLinks, AreMade}
 use Rattle.entry_rows.specs.Retiring.{AreOnPaths}
 use Rattle.hierarchy_edit.specs.declared.listing.Listed.{Listed}
 use Rattle.hierarchy_edit.specs.declared.standing.LogState.{LogState}
+
+-- whether there are changed pairs, and the first becomes active
+unfoldable pub is_uniting : List Changed → Bool
+is_uniting [] = false
+is_uniting (c ∷ more) = c.active
 
 -- the refusal of a chunk of a layer that has no number left
 abbrev pub refuse_chunk : Dataset → ℕ × ℕ → Refusal

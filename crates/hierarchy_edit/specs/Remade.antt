@@ -1,5 +1,5 @@
 -- The entry that a plan makes behind a log, and what is told of it.
-use Rattle.std.specs.Prelude.{◌≡◌, ℕ, List, ◌∷◌, length, Some, None}
+use Rattle.std.specs.Prelude.{◌≡◌, ℕ, List, length, Some, None}
 use Rattle.op_model.specs.declared.base.Dataset.{Dataset}
 use Rattle.op_model.specs.declared.base.Base.{Base}
 use Rattle.op_model.specs.declared.request.Edit.{Edit}

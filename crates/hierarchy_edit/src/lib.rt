@@ -3,8 +3,9 @@
 //! The promise: over words that stand for a log at which a plan is legal, [`remake`] gives the draft with
 //! which they stand for the log with the plan's entry, or exactly the refusal of the store, the ids or
 //! the clock; the words stay as they are. [`commit`] applies it. All memory of the edit is taken by
-//! [`remake`]. Only the leaves and active pairs of the touched objects are looked at, and what the
-//! entry's records are chained to.
+//! [`remake`]. Of an edit that makes pairs active only the children of the retired nodes are looked at,
+//! of another one the leaves and active pairs of the touched objects, and of both what the entry's
+//! records are chained to.
 //!
 //! - `committing`: an entry put into the words
 //! - `counting`: how many records an entry needs, and how many are left

@@ -67,7 +67,8 @@ pub fn list_entry<W: Words>(
     let changed = changed_of(plan);
     let paths = old_paths(alloc, w, changed)?;
     let tops = paths.tops.as_slice();
-    let layers = made_layers(alloc, w, dataset, changed, tops)?;
+    let places = paths.places.as_slice();
+    let layers = made_layers(alloc, w, dataset, changed, tops, places)?;
     let state = log_state(w, dataset, changed);
     let need = records_of(&plan.edit, changed, state.unknown, &layers)?;
     let spent = refusal_of(dataset, layers.spent);

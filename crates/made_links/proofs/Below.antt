@@ -81,7 +81,7 @@ module _ (d : Dataset) (b : Base) (log : List Entry) (e : Entry) (words : List �
   as_many = sym (length-map below.leasts.items (at ids)) ∙ (ap length is.leasts ∙ length-map below.nodes.items (λ (m : MadeNode). m.least))
 
   pub known_at : (i : ℕ) → i < length ids → has b.supervoxels (get_or ids i 0) ≡ true
-  known_at i l = is.whole.known (get_or ids i 0) (get_has ids i l)
+  known_at i l = is.holds.known (get_or ids i 0) (get_has ids i l)
 
   -- where something is made below, the layer isn't the second
   above_two : (r : ℕ) → r < length below.nodes.items → 2 < layer
@@ -119,7 +119,7 @@ module _ (d : Dataset) (b : Base) (log : List Entry) (e : Entry) (words : List �
           let h = made_has d b is.image.dataset is.image.base log e (layer - 1) below.nodes.items (is.made low) (get_or ids i 0) (known_at i l) first n in
           let g = map_only (at ids) below.leasts.items (get_or ids i 0) (subst (λ xs. has xs (get_or ids i 0) ≡ true) (sym is.leasts) h) in
           let low_q = all_has (λ q. q < length ids) below.leasts.items g.0 (recursion_from_All (λ q. q < length ids) below.leasts.items is.places) g.1 in
-          let same : g.0 ≡ i = at_one ids g.0 i is.whole.ascending low_q l g.2 in
+          let same : g.0 ≡ i = at_one ids g.0 i is.holds.ascending low_q l g.2 in
           none (subst (λ k. has below.leasts.items k ≡ true) same g.1)
 
       old : 2 < layer → is_new d b (e ∷ log) (layer - 1) (get_or ids i 0) ≡ false

@@ -12,14 +12,14 @@ use Rattle.op_model.specs.declared.entry.Entry.{Entry}
 use Rattle.graph_model.specs.Lists.{has}
 use Rattle.op_model.specs.Chunks.{chunk, top}
 use Rattle.op_model.specs.Ingest.{spent_in}
-use Rattle.op_model.specs.Labels.{Joined, component, label, node, used}
+use Rattle.op_model.specs.Labels.{Joined, component, is_new, label, node, used}
 use Rattle.op_model.specs.Operations.{ascending}
 use Rattle.op_model.specs.Valid.{IsAscending}
 use Rattle.graph_model.proofs.ListLemmas.{filter_has, has_cases, has_none}
 use Rattle.op_model.proofs.ChunkLemmas.{top_low}
 use Rattle.op_model.proofs.CutLemmas.{find_none_at}
 use Rattle.op_model.proofs.HistoryLemmas.{node_parts_of}
-use Rattle.op_model.proofs.LabelLemmas.{joined_label, label_joined, label_used}
+use Rattle.op_model.proofs.LabelLemmas.{joined_label, label_joined, label_used, new_same, same_component}
 use Rattle.op_model.proofs.LegalLemmas.{all_has, ascending_has, map_has}
 use Rattle.record_rows.specs.LogRows.{children_of}
 use Rattle.record_rows.specs.Versions.{child_at}
@@ -68,7 +68,7 @@ module _ (d : Dataset) (b : Base) (log : List Entry) (e : Entry) (words : List �
   new = e ∷ log
 
   known_at : (i : ℕ) → i < length ids → has b.supervoxels (get_or ids i 0) ≡ true
-  known_at i l = is.below_is.whole.known (get_or ids i 0) (get_has ids i l)
+  known_at i l = is.below_is.holds.known (get_or ids i 0) (get_has ids i l)
 
   low : layer < 2 ^ 8
   low = let t = top_low d in omega (arith, t, high)
@@ -95,7 +95,7 @@ module _ (d : Dataset) (b : Base) (log : List Entry) (e : Entry) (words : List �
   -- where the ids below fit, different least leaves have different ids
   one_place : (2 < layer → spent_in d b (e ∷ log) (layer - 1) ≡ None) → (i j : ℕ) → i < length ids → j < length ids → get_or below_firsts i 0 ≡ i → get_or below_firsts j 0 ≡ j
       → child_at d b (e ∷ log) layer (get_or ids i 0) ≡ child_at d b (e ∷ log) layer (get_or ids j 0) → i ≡ j
-  one_place fits i j li lj oi oj q = at_one ids i j is.below_is.whole.ascending li lj (elim (cases_lt 2 layer) [
+  one_place fits i j li lj oi oj q = at_one ids i j is.below_is.holds.ascending li lj (elim (cases_lt 2 layer) [
     | inl l ↦ (
         let n = sym (child_above d b (e ∷ log) layer u l) ∙ (q ∙ child_above d b (e ∷ log) layer v l) in
         let p = node_parts_of d b (e ∷ log) (e ∷ log) (layer - 1) u v (width_low d.layout is.below_is.image.dataset.layout.3 (layer - 1)) (fit l u (known_at i li)) (fit l v (known_at j lj)) n in
@@ -219,18 +219,21 @@ module _ (d : Dataset) (b : Base) (log : List Entry) (e : Entry) (words : List �
       leaf_from : (u : ℕ) → has (component d b (e ∷ log) layer (get_or made.nodes.items r m).least) u ≡ true → list_any (passes (child_at d b (e ∷ log) layer u)) all ≡ true
       leaf_from u h =
           let hu = (of_component d b is.below_is.image.dataset is.below_is.image.base (e ∷ log) layer (get_or made.nodes.items r m).least u h).0 in
-          let hx : has ids (get_or made.nodes.items r m).least ≡ true = subst (λ y. has ids y ≡ true) (least_of r lr) (get_has ids (get_or made.leasts.items r 0) (is.made_places r 0 (omega (arith, many, lr)))) in
-          let iu : has ids u ≡ true = is.below_is.whole.whole layer (get_or made.nodes.items r m).least u hx h in
-          let k = index_at ids u iu in
-          let j : ℕ = index_of ids u in
-          let i : ℕ = get_or below_firsts j 0 in
-          let li : i < length ids = is.below_is.firsts_of.small j k.0 in
-          let leaf : get_or ids i 0 ≡ least_leaf d b (e ∷ log) (layer - 1) u = is.below_is.firsts_of.leaf j k.0 ∙ ap (least_leaf d b (e ∷ log) (layer - 1)) k.1 in
+          let mine = of_component d b is.below_is.image.dataset is.below_is.image.base (e ∷ log) layer (get_or made.nodes.items r m).least u h in
+          let fresh : is_new d b (e ∷ log) layer u ≡ true =
+          sym (new_same d b (e ∷ log) layer (get_or made.nodes.items r m).least u (same_component d b (e ∷ log) layer (get_or made.nodes.items r m).least u mine.1 mine.2))
+          ∙ (made_at d b is.below_is.image.dataset is.below_is.image.base log e layer made.nodes.items is.made_are r m lr).new in
+          let y : ℕ = least_leaf d b (e ∷ log) (layer - 1) u in
+          let iy : has ids y ≡ true = is.below_is.holds.children u hu fresh in
+          let k = index_at ids y iy in
+          let i : ℕ = index_of ids y in
+          let li : i < length ids = k.0 in
+          let leaf : get_or ids i 0 ≡ least_leaf d b (e ∷ log) (layer - 1) u = k.1 in
           let hi = known_at i li in
           let under : has (leaves d b (e ∷ log) (layer - 1) u) (get_or ids i 0) ≡ true =
           subst (λ y. has (leaves d b (e ∷ log) (layer - 1) u) y ≡ true) (sym leaf) (leaf_in d b is.below_is.image.dataset.layout is.below_is.image.base.ascending (e ∷ log) (layer - 1) u hu) in
           let own : get_or below_firsts i 0 ≡ i =
-          at_one ids (get_or below_firsts i 0) i is.below_is.whole.ascending (is.below_is.firsts_of.small i li) li
+          at_one ids (get_or below_firsts i 0) i is.below_is.holds.ascending (is.below_is.firsts_of.small i li) li
           (is.below_is.firsts_of.leaf i li ∙ (sym (leaf_same d b is.below_is.image.dataset.layout is.below_is.image.base.ascending (e ∷ log) (layer - 1) u (get_or ids i 0) hi under) ∙ sym leaf)) in
           let joined : Joined d b (e ∷ log) layer u (get_or ids i 0) = leaves_above d b is.below_is.image.dataset.layout (e ∷ log) layer u (get_or ids i 0) two low hu under in
           let over : has (leaves d b (e ∷ log) layer u) (get_or ids i 0) ≡ true = (leaves_iff d b is.below_is.image.dataset.layout (e ∷ log) layer u (get_or ids i 0) two).1 joined in
@@ -242,7 +245,7 @@ module _ (d : Dataset) (b : Base) (log : List Entry) (e : Entry) (words : List �
           let f : ℕ = get_or firsts i 0 in
           let lf : f < length ids = is.firsts_of.small i li in
           let same : f ≡ get_or made.leasts.items r 0 =
-          at_one ids f (get_or made.leasts.items r 0) is.below_is.whole.ascending lf (is.made_places r 0 (omega (arith, many, lr))) (is.firsts_of.leaf i li ∙ (top_leaf ∙ sym (least_of r lr))) in
+          at_one ids f (get_or made.leasts.items r 0) is.below_is.holds.ascending lf (is.made_places r 0 (omega (arith, many, lr))) (is.firsts_of.leaf i li ∙ (top_leaf ∙ sym (least_of r lr))) in
           let hf : has made.leasts.items f ≡ true = subst (λ y. has made.leasts.items y ≡ true) (sym same) (get_has made.leasts.items r (omega (arith, many, lr))) in
           let t = ranked.there f hf in
           let some = t.0 in

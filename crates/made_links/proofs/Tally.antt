@@ -45,4 +45,4 @@ module _ (d : Dataset) (b : Base) (log : List Entry) (e : Entry) (words : List �
       ∙ (n
       ∙ (sym (length-map all (λ (c : Child). c.least))
       ∙ (ap length (leasts ∙ tests_same)
-      ∙ counted d b is.below_is.image.dataset is.below_is.image.base log e ids layer two is.below_is.whole below_firsts firsts made.leasts.items made.nodes.items is.below_is.firsts_of is.firsts_of is.made_are is.made_leasts is.made_places)))
+      ∙ counted d b is.below_is.image.dataset is.below_is.image.base log e ids layer two is.below_is.holds below_firsts firsts made.leasts.items made.nodes.items is.below_is.firsts_of is.firsts_of is.made_are is.made_leasts is.made_places)))

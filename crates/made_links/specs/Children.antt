@@ -12,15 +12,16 @@ use Rattle.record_rows.specs.Versions.{child_at}
 use Rattle.record_rows.specs.Words.{place_from}
 use Rattle.layer_laws.specs.Building.{at}
 use Rattle.entry_parts.specs.Made.{AreMadeIn}
-use Rattle.entry_parts.specs.Parts.{AreFirstsOf, IsWhole}
+use Rattle.entry_parts.specs.Parts.{AreFirstsOf}
+use Rattle.child_counts.specs.Counting.{HoldsChildren}
 use Rattle.made_nodes.specs.declared.layers.MadeLayer.{MadeLayer}
 use Rattle.made_links.specs.declared.finding.Child.{Child}
 
--- The words tell of a log, and an entry e is to follow. These are supervoxels with all that is joined to one of them behind the entry, with their least leaves in the layer below; and this is what the entry makes there, which is nothing below layer 2.
+-- The words tell of a log, and an entry e is to follow. These are supervoxels with the least leaf of each child of a node that the entry makes in the layer, and with their least leaves in the layer below; and this is what the entry makes there, which is nothing below layer 2.
 pub record AreBelow (d : Dataset) (b : Base) (log : List Entry) (e : Entry) (words : List ℕ) (prefix : ℕ) (ids : List ℕ) (layer : ℕ) (firsts : List ℕ) (below : MadeLayer) : Type 0 where
   pub image : ParentImage d b log words
   pub prefix_is : prefix ≡ length log
-  pub whole : IsWhole d b (e ∷ log) ids
+  pub holds : HoldsChildren d b (e ∷ log) layer ids
   pub firsts_of : AreFirstsOf d b (e ∷ log) ids (layer - 1) firsts
   pub made : 2 < layer → AreMadeIn d b log e (layer - 1) below.nodes.items
   pub none : layer ≡ 2 → below.nodes.items ≡ []

@@ -54,7 +54,8 @@ fn linked(alloc: Global, nodes: &[MadeNode], children: &[Child]) -> Result<Vec<M
 /// one node by the ids of the children.
 ///
 /// The words tell of the log before the entry, and the prefix is how many entries it has. `ids` has
-/// supervoxels, ascending, with all that is joined to one of them behind the entry. `below_firsts` and
+/// supervoxels, ascending, with the least leaf of each child of a node that the entry makes in the
+/// layer. `below_firsts` and
 /// `firsts` have for each place that of the least leaf of its node of the layer below and of the
 /// layer; below layer 2 each supervoxel is its own. `below` and `made` are what the entry makes there,
 /// which is nothing below layer 2. Where a chunk of the layer below is spent, the ids of children there may

@@ -83,7 +83,7 @@ module _ (d : Dataset) (b : Base) (log : List Entry) (e : Entry) (words ids plac
   here c v = eqb (chunk d layer v) c
 
   known_at : (i : ℕ) → i < length ids → has b.supervoxels (get_or ids i 0) ≡ true
-  known_at i l = is.whole.known (get_or ids i 0) (get_has ids i l)
+  known_at i l = is.known (get_or ids i 0) (get_has ids i l)
 
   place_low : (p : ℕ) → has places p ≡ true → p < length ids
   place_low p h = all_has (λ q. q < length ids) places p (recursion_from_All (λ q. q < length ids) places is.ends_at.small) h
@@ -94,7 +94,7 @@ module _ (d : Dataset) (b : Base) (log : List Entry) (e : Entry) (words ids plac
   pub ids_are : All (IsSupervoxel d) ids
   ids_are =
       All-from_recursion (IsSupervoxel d) ids
-      (all_more (λ v. has ids v ≡ true) (IsSupervoxel d) ids (λ v h. all_has (IsSupervoxel d) b.supervoxels v is.image.base.supervoxels (is.whole.known v h)) (all_has_self ids))
+      (all_more (λ v. has ids v ≡ true) (IsSupervoxel d) ids (λ v h. all_has (IsSupervoxel d) b.supervoxels v is.image.base.supervoxels (is.known v h)) (all_has_self ids))
 
   cs : List ℕ
   cs = layer_chunks d b layer
@@ -184,7 +184,7 @@ module _ (d : Dataset) (b : Base) (log : List Entry) (e : Entry) (words ids plac
     heads_up : (c : ℕ) → IsAscending (heads c)
     unfolding heads sv
     heads_up c =
-        places_rise ids is.whole.ascending (filter (λ i. here c (get_or ids i 0)) leasts) (filter_ascending (λ i. here c (get_or ids i 0)) leasts up)
+        places_rise ids is.ascending (filter (λ i. here c (get_or ids i 0)) leasts) (filter_ascending (λ i. here c (get_or ids i 0)) leasts up)
         (λ p h. least_low p (filter_only (λ i. here c (get_or ids i 0)) leasts p h).0)
 
     heads_there : (c x : ℕ) → has (heads c) x ≡ true → (has (members d b layer c) x ≡ true) × (least d b new layer x ≡ x) × (is_new d b new layer x ≡ true)

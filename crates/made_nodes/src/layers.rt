@@ -45,9 +45,9 @@ fn leasts_of(alloc: Global, owners: &[Owner]) -> Result<Vec<u32>, NoMemory>
 
 /// The nodes of a layer that an entry makes: those that hold an end of one of its changed pairs.
 ///
-/// The words tell of the log before the entry. `ids` has supervoxels, ascending, with all that is
-/// joined to one of them behind the entry; `ends` has the places of the ends of the changed pairs in
-/// `ids`, ascending, and `firsts` for each place that of the least leaf of its node of the layer.
+/// The words tell of the log before the entry. `ids` has supervoxels, ascending, with the least leaf of
+/// each one's node of the layer behind the entry; `ends` has the places of the ends of the changed
+/// pairs in `ids`, ascending, and `firsts` for each place that of the least leaf of its node.
 /// Time is n log n in the ends. Each chunk with a new node is looked up once.
 ///
 /// # Errors

@@ -65,6 +65,13 @@ module _ (d : Dataset) (b : Base) where
       let k : OneState e.changed = subst OneState (sym q) (change_state (f ∷ log) legal.0.0 ih) in
       (k, ih)
 
+  -- the first pair that an edit changes tells the state of all
+  pub edit_state : (log : List Entry) (edit : Edit) (c : Changed) (more : List Changed) → Legal d b log → change d b log edit ≡ c ∷ more → HaveState c.active (change d b log edit)
+  edit_state log edit c more legal q =
+      let s = change_state log edit (legal_state log legal) in
+      let h : HaveState s.0 (c ∷ more) = subst (HaveState s.0) q s.1 in
+      subst (λ on. HaveState on (change d b log edit)) (sym h.0) s.1
+
   -- the first changed pair tells the state of all
   pub first_state : (e : Entry) (log : List Entry) (c : Changed) (more : List Changed) → Legal d b (e ∷ log) → e.changed ≡ c ∷ more → HaveState c.active e.changed
   first_state e log c more legal q =

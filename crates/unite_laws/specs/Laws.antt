@@ -5,12 +5,13 @@ use Rattle.op_model.specs.declared.base.Dataset.{Dataset}
 use Rattle.op_model.specs.declared.base.Base.{Base}
 use Rattle.op_model.specs.declared.entry.Entry.{Entry}
 use Rattle.op_model.specs.declared.entry.Changed.{Changed}
+use Rattle.op_model.specs.declared.request.Edit.{Edit}
 use Rattle.graph_model.specs.Lists.{has}
 use Rattle.graph_model.specs.Components.{Joined as JoinedBy}
 use Rattle.op_model.specs.Chunks.{chunk, layers}
 use Rattle.op_model.specs.Labels.{edges, touches, node, Joined}
 use Rattle.op_model.specs.Valid.{IsAscending}
-use Rattle.op_model.specs.Operations.{ends}
+use Rattle.op_model.specs.Operations.{change, ends}
 use Rattle.op_model.specs.Edges.{linked}
 use Rattle.op_model.specs.Legal.{Legal}
 use Rattle.node_ids.specs.Ids.{IsLayout}
@@ -19,12 +20,15 @@ use Rattle.layer_laws.specs.Building.{at, least_leaf}
 use Rattle.layer_laws.specs.Levels.{level, leaves, AreFirsts}
 use Rattle.unite_laws.specs.Uniting.{HaveState, is_changed, unites, IsUnited, AreUnited, IsUnitedIds, AreUnitedIds}
 
--- Each entry of a legal log gives its changed pairs one state, which the first of them tells.
+-- Each entry of a legal log gives its changed pairs one state, which the first of them tells, and so does each edit at such a log.
 pub record EntriesHaveOneState : Type 0 where
   pub one : (d : Dataset) (b : Base) (log : List Entry) → Legal d b log → AllByRecursion (λ e. (on : Bool) × HaveState on e.changed) log
   pub told_by_first :
       (d : Dataset) (b : Base) (e : Entry) (log : List Entry) (c : Changed) (more : List Changed) → Legal d b (e ∷ log) → e.changed ≡ c ∷ more
       → HaveState c.active e.changed
+  pub edits_too :
+      (d : Dataset) (b : Base) (log : List Entry) (edit : Edit) (c : Changed) (more : List Changed) → Legal d b log → change d b log edit ≡ c ∷ more
+      → HaveState c.active (change d b log edit)
 
 -- An entry that only makes pairs active unites nodes of each layer: a layer joins what it joined before, and its changed pairs.
 pub record ActivePairsUnite : Type 0 where

@@ -5,7 +5,7 @@ ghost use Rattle.unite_laws.specs.Laws.{ActivePairsUnite, EndsTellNodes, Entries
 ghost use Rattle.unite_laws.specs.Worked.{WorkedUnions};
 
 /// Each entry of a legal log gives all its changed pairs one state, all active or all inactive, and
-/// the first of them tells which.
+/// the first of them tells which. So does each edit at such a log.
 pub fn entries_have_one_state()
     ensures { EntriesHaveOneState }
 {}

@@ -3,7 +3,9 @@ use Rattle.op_model.specs.Chunks.{top}
 use Rattle.op_model.specs.Operations.{ascending}
 use Rattle.entry_parts.specs.declared.made.MadeNode.{MadeNode}
 use Rattle.entry_layers.specs.Layering.{AreFirstsBelow, AreLayersTo, IsEntryPart}
+use Rattle.chunk_geometry.proofs.LayerLemmas.{top_low}
 use Rattle.entry_layers.proofs.AllLayers.{all_layers}
+use Rattle.entry_layers.proofs.Rounds.{part_list}
 use Rattle.entry_layers.proofs.layering.entry_layers.Goals as goal
 
 pub loop-layer-init : goal.loop-layer-init
@@ -47,7 +49,7 @@ loop-layer-preserved g c =
       low = omega (arith, low);
       own = subst (λ k. AreFirstsBelow c.args.dataset.now c.args.part.now k c.in_ok-below-2.below) same_layer c.in_ok-below-2.ensures.own;
       made = λ b log e is.
-          subst (λ k. AreLayersTo c.args.dataset.now b log e c.args.part.now k c.next_layer.new.all c.in_ok-below-2.below) under
+          subst (λ k. AreLayersTo c.args.dataset.now b log e c.args.part.now.supervoxels k c.next_layer.new.all c.in_ok-below-2.below) under
           (c.in_ok-below-2.ensures.made b log e (subst (λ w. IsEntryPart c.args.dataset.now b log e (g.W.Words.words w) c.args.part.now c.args.ends.now) (sym i.same) is)
           (i.made b log e is) (c.length-prefix.ensures.is c.args.dataset.now b log is.image));
     }
@@ -60,5 +62,6 @@ returns-clause-layers g c b log e is =
     let t = c.loop-layer-test.false in
     let m = c.top_layer-layer-end.ensures.is in
     let l = c.loop-layer.auto.layer-end in
-    all_layers c.args.dataset.now b e (g.W.Words.words c.args.w.now) c.args.part.now c.args.ends.now log (c.loop-layer.layer - 2) c.loop-layer.all _ c.loop-layer.below is (omega (arith, low, t, m, l)) (i.made b log e is)
+    all_layers c.args.dataset.now b e (g.W.Words.words c.args.w.now) c.args.part.now.supervoxels c.args.ends.now (top_low c.args.dataset.now.grid) log (c.loop-layer.layer - 2) c.loop-layer.all _ c.loop-layer.below
+    (part_list c.args.dataset.now b log e (g.W.Words.words c.args.w.now) c.args.part.now c.args.ends.now is) (omega (arith, low, t, m, l)) (i.made b log e is)
     refl refl refl (c.in_ok-all.ensures ∙ ap (λ (ns : List MadeNode). ascending (map (λ (m : MadeNode). m.id) ns)) c.deref-2.ensures.value)

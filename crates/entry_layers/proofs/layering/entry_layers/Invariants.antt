@@ -9,5 +9,5 @@ invariant-loop-layer g l = record {
   same : l.w ≡ l.fn.w;
   low : 2 ≤ l.layer;
   own : AreFirstsBelow l.dataset l.part (l.layer - 1) l.below;
-  made : (b : Base) (log : List Entry) (e : Entry) → IsEntryPart l.dataset b log e (g.W.Words.words l.fn.w) l.part l.ends → AreLayersTo l.dataset b log e l.part (l.layer - 2) l.all l.below;
+  made : (b : Base) (log : List Entry) (e : Entry) → IsEntryPart l.dataset b log e (g.W.Words.words l.fn.w) l.part l.ends → AreLayersTo l.dataset b log e l.part.supervoxels (l.layer - 2) l.all l.below;
 }

@@ -1,65 +1,38 @@
-use Rattle.std.proofs.Common.{◌≡◌, ◌∙◌, ◌+◌, ◌-◌, ◌≤◌, ◌<◌, ◌++◌, ◌∷◌, List, length, map, ap, subst, sym, arith}
-use Rattle.std.specs.List.{All}
-use Rattle.layer_laws.specs.Building.{at}
-use Rattle.entry_parts.specs.declared.made.MadeLink.{MadeLink}
-use Rattle.entry_parts.specs.declared.made.MadeNode.{MadeNode}
-use Rattle.entry_parts.specs.Made.{AreLinksIn, AreMadeIn}
-use Rattle.made_links.specs.Children.{IsLinked}
-use Rattle.entry_layers.proofs.Rounds.{linked_at, next_is, room_below, touched_at}
+use Rattle.std.proofs.Common.{◌-◌, ◌∷◌, List, sym, subst, ap}
+use Rattle.op_model.specs.declared.base.Base.{Base}
+use Rattle.op_model.specs.declared.entry.Entry.{Entry}
+use Rattle.entry_parts.specs.Parts.{AreFirstsOf}
+use Rattle.part_layers.specs.Rising.{AreOwnFirsts}
+use Rattle.entry_layers.specs.Layering.{AreLayersTo, IsEntryList}
+use Rattle.entry_layers.proofs.Rounds.{part_list}
 use Rattle.entry_layers.proofs.layering.next_layer.Goals as goal
 
-pub layer_made-requires-clause-touched : goal.layer_made-requires-clause-touched
-layer_made-requires-clause-touched g c =
+pub add_layer-requires-clause-made : goal.add_layer-requires-clause-made
+add_layer-requires-clause-made g c =
     let r = c.requires.made in
-    let here = c.in_ok-firsts.ensures.are r.0 (r.2 ∷ r.1) r.3.image.base r.3.part_is in (
+    let d = c.args.dataset.now in
+    let s = sym c.ids_of-ids.ensures in
+    let here = c.in_ok-firsts.ensures.are r.0 (r.2 ∷ r.1) r.3.image.base r.3.part_is in
+    let is = part_list d r.0 r.1 r.2 (g.W.Words.words c.args.w.now) c.args.part.now c.args.ends.now r.3 in (
       r.0,
       r.1,
       r.2,
-      touched_at c.args.dataset.now r.0 r.1 r.2 (g.W.Words.words c.args.w.now) c.args.part.now c.args.ends.now r.3 c.args.layer c.requires.layer.0 c.ids_of-ids.result.now c.deref-2.result.now c.in_ok-firsts.firsts.items
-          c.ids_of-ids.ensures c.deref-2.ensures.value here,
+      subst (λ xs. IsEntryList d r.0 r.1 r.2 (g.W.Words.words c.args.w.now) xs c.args.ends.now) s is,
+      subst (λ xs. AreLayersTo d r.0 r.1 r.2 xs (c.args.layer - 2) c.args.all.now c.args.below.now) s r.4,
+      r.5,
+      subst (λ xs. AreFirstsOf d r.0 (r.2 ∷ r.1) xs c.args.layer c.in_ok-firsts.firsts.items) s here,
     )
 
-pub layer_links-requires : goal.layer_links-requires
-layer_links-requires g c =
-    let r = c.requires.made in
-    let d = c.args.dataset.now in
-    let two = c.requires.layer.0 in
-    let here = c.in_ok-firsts.ensures.are r.0 (r.2 ∷ r.1) r.3.image.base r.3.part_is in
-    let touched = touched_at d r.0 r.1 r.2 (g.W.Words.words c.args.w.now) c.args.part.now c.args.ends.now r.3 c.args.layer two c.ids_of-ids.result.now c.deref-2.result.now c.in_ok-firsts.firsts.items c.ids_of-ids.ensures c.deref-2.ensures.value here in
-    let are = c.in_ok-made.ensures.nodes r.0 r.1 r.2 touched in
-    let linked = linked_at d r.0 r.1 r.2 (g.W.Words.words c.args.w.now) c.args.part.now c.args.ends.now r.3 c.args.layer two c.args.all.now c.args.below.now r.4 c.args.prefix c.ids_of-ids.result.now c.deref-3.result.now c.deref-4.result.now
-    c.in_ok-firsts.firsts.items c.in_ok-made.made r.5 c.ids_of-ids.ensures c.deref-3.ensures.value c.deref-4.ensures.value here are c.in_ok-made.ensures.leasts c.in_ok-made.ensures.places in
-    record {
-      linked = (
-        d,
-        r.0,
-        r.1,
-        r.2,
-        subst (λ w. IsLinked d r.0 r.1 r.2 (g.W.Words.words w) c.args.prefix c.ids_of-ids.result.now c.args.layer c.deref-3.result.now c.args.below.now.made c.deref-4.result.now c.in_ok-made.made) (sym c.layer_made.ensures.same) linked,
-        two,
-        c.requires.layer.1,
-      );
-    }
+pub returns-clause-own : goal.returns-clause-own
+returns-clause-own g c = subst (λ v. AreOwnFirsts c.args.dataset.now c.args.part.now c.args.layer v.items) (sym c.in_ok-next.ensures.firsts) c.in_ok-firsts.ensures.own
 
 pub returns-clause-made : goal.returns-clause-made
 returns-clause-made g c b log e is to n =
     let d = c.args.dataset.now in
-    let two : 2 ≤ c.args.layer = c.requires.layer.0 in
+    let q = c.ids_of-ids.ensures in
     let here = c.in_ok-firsts.ensures.are b (e ∷ log) is.image.base is.part_is in
-    let touched = touched_at d b log e (g.W.Words.words c.args.w.now) c.args.part.now c.args.ends.now is c.args.layer two c.ids_of-ids.result.now c.deref-2.result.now c.in_ok-firsts.firsts.items c.ids_of-ids.ensures c.deref-2.ensures.value here in
-    let are = c.in_ok-made.ensures.nodes b log e touched in
-    let old = linked_at d b log e (g.W.Words.words c.args.w.now) c.args.part.now c.args.ends.now is c.args.layer two c.args.all.now c.args.below.now to c.args.prefix c.ids_of-ids.result.now c.deref-3.result.now c.deref-4.result.now
-    c.in_ok-firsts.firsts.items c.in_ok-made.made n c.ids_of-ids.ensures c.deref-3.ensures.value c.deref-4.ensures.value here are c.in_ok-made.ensures.leasts c.in_ok-made.ensures.places in
-    let linked = subst (λ w. IsLinked d b log e (g.W.Words.words w) c.args.prefix c.ids_of-ids.result.now c.args.layer c.deref-3.result.now c.args.below.now.made c.deref-4.result.now c.in_ok-made.made) (sym c.layer_made.ensures.same) old in
-    let spent = c.in_ok-made.ensures.spent b log e touched in
-    let steps : c.args.layer - 2 + 2 ≡ c.args.layer = omega (arith, two) in
-    let gathered = c.in_ok-add.ensures.gathered d b log e (c.args.layer - 2) c.args.below.now.made.nodes.items to.gathered steps
-    (subst (λ (ns : List MadeNode). AreMadeIn d b log e c.args.layer ns) (sym c.deref-5.ensures.value) are) spent
-    (ap (λ (ls : List MadeLink). length ls) c.deref-6.ensures.value ∙ c.in_ok-links.ensures.count d b log e linked c.requires.layer.1)
-    (λ o. subst (λ (ls : List MadeLink). AreLinksIn d b log e c.args.layer c.args.below.now.made.nodes.items ls) (sym c.deref-6.ensures.value)
-    (c.in_ok-links.ensures.links d b log e linked c.requires.layer.1 (room_below d b log e (g.W.Words.words c.args.w.now) c.args.part.now c.args.ends.now is c.args.layer two c.args.all.now c.args.below.now to o)))
-    to.known in
-    next_is d b log e (g.W.Words.words c.args.w.now) c.args.part.now c.args.ends.now is c.args.layer two c.args.all.now c.args.below.now to c.add.new.all _ here are
-    (subst (λ xs. map (at xs) c.in_ok-made.made.leasts.items ≡ map (λ (m : MadeNode). m.least) c.in_ok-made.made.nodes.items) c.ids_of-ids.ensures c.in_ok-made.ensures.leasts)
-    (subst (λ xs. All (λ p. p < length xs) c.in_ok-made.made.leasts.items) c.ids_of-ids.ensures c.in_ok-made.ensures.places)
-    spent gathered (c.in_ok-add.ensures.nodes ∙ ap (λ (ns : List MadeNode). c.args.all.now.nodes.items ++ ns) c.deref-5.ensures.value) (λ o. (c.in_ok-add.ensures.spent o).1)
+    let list = part_list d b log e (g.W.Words.words c.args.w.now) c.args.part.now c.args.ends.now is in
+    subst (λ xs. AreLayersTo d b log e xs (c.args.layer - 1) c.add_layer.new.all c.in_ok-next.next) q
+    (c.in_ok-next.ensures.made b log e (subst (λ xs. IsEntryList d b log e (g.W.Words.words c.args.w.now) xs c.args.ends.now) (sym q) list)
+    (subst (λ xs. AreLayersTo d b log e xs (c.args.layer - 2) c.args.all.now c.args.below.now) (sym q) to) n
+    (subst (λ xs. AreFirstsOf d b (e ∷ log) xs c.args.layer c.in_ok-firsts.firsts.items) (sym q) here))

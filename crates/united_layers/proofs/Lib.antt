@@ -1,0 +1,6 @@
+mod Represented
+mod Kids
+mod Jointing
+mod Listed
+mod Gathering
+mod Layered

@@ -1,0 +1,3 @@
+pub mod Representing
+pub mod Jointed
+pub mod Layering
