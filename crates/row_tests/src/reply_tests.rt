@@ -46,7 +46,7 @@ fn changes_are_told(rt: HostRuntime) -> Result<(), NoMemory> {
     let three = [
         summary(0, 1000, Kind::Ingest),
         summary(1, 1010, Kind::Merge),
-        summary(2, 1020, Kind::Split),
+        summary(2, 1020, Kind::Undo),
     ];
     assert!(rt; has_changes(alloc, &mut w, NodeId(TOP_4), Some(1020), &three, 6)?);
     Ok(())
