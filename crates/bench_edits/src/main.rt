@@ -128,7 +128,7 @@ fn merge_all<R: Clock>(
 fn run<R: Clock>(rt: &R, alloc: Global, wish: Wish) -> Option<Timed>
     requires { IsCount wish.count wish.edits }
 {
-    let capacity = wish.count * 10 + wish.edits.min(60000) * 100 + 10000;
+    let capacity = wish.count * 10 + wish.edits.min(16000) * 1000 + 10000;
     let dataset = dataset_of(capacity.min(16777216));
     let made = made_of(wish.count, wish.seed, &dataset);
     let base = made_base(alloc, &made, &dataset).ok()?;
