@@ -1,6 +1,6 @@
 -- What a place has at each name behind files that were kept back.
-use Rattle.std.specs.Prelude.{◌≡◌, ◌≤◌, ⊤, ℕ, List, [], ◌∷◌, slice_get, Option, Some, None}
-use Rattle.std.specs.List.{AllByRecursion}
+use Rattle.std.specs.Prelude.{◌≡◌, ◌≤◌, ⊤, ⊥, ℕ, false, bytes_eq, List, [], ◌∷◌, slice_get, Option, Some, None}
+use Rattle.std.specs.List.{AllByRecursion, list_any}
 use Rattle.std.specs.FinMap.{get}
 use Rattle.pcg_base.specs.Causes.{Rose, added}
 use Rattle.pcg_base.specs.Told.{Files, KeepsFiles, TellsTo}
@@ -22,6 +22,12 @@ pub record AreKeptIn (names : List (List ℕ)) (sources : List (Option (List ℕ
   pub still : AllByRecursion (λ x. x.1 ≡ 0) sources → new.reads ≡ old.reads
   pub each : (k : ℕ) (name : List ℕ) (source : Option (List ℕ) × ℕ) → slice_get names k ≡ Some name → slice_get sources k ≡ Some source → IsKeptIn name source old new
 
+-- where a place tells its bytes it still does, and of other names than these it has the same ones
+abbrev pub KeepsOther : Option Files → List (List ℕ) → Option Files → Type 0
+KeepsOther None names new = ⊤
+KeepsOther (Some files) names None = ⊥
+KeepsOther (Some files) names (Some files') = (name : List ℕ) → list_any (bytes_eq name) names ≡ false → get files' name ≡ get files name
+
 -- where a place tells its bytes, a sink tells what it holds, and the file has it
 abbrev pub IsAt : Option Files → Option Files → List ℕ → Option (List ℕ) → Type 0
 IsAt None new name held = ⊤
@@ -40,5 +46,6 @@ pub record AreKeptOut (names : List (List ℕ)) (sinks : List (Option (List ℕ)
   pub later : IsLater old new
   pub left : (name : List ℕ) → new.left name ≡ old.left name
   pub sources : (name : List ℕ) → (new.counts name).source_faults ≡ (old.counts name).source_faults
+  pub others : KeepsOther old.files names new.files
   pub still : AllByRecursion (λ x. x.1 ≡ 0) sinks → new.writes ≡ old.writes
   pub each : (k : ℕ) (name : List ℕ) (sink : Option (List ℕ) × ℕ) → slice_get names k ≡ Some name → slice_get sinks k ≡ Some sink → IsKeptOut name sink old new
