@@ -33,13 +33,14 @@ pub record IsFresh {K : Type 0} (x : ClientAnswers K) : Type 0 where
   pub refused : x.refused ≡ 0
   pub failed : x.failed ≡ false
 
--- A client's replies were written, from fresh answers on. The last one's writing may have failed; then the client has ended.
+-- A client's replies were written, from fresh answers on. The last one's writing may have failed; then the client has ended. Where none did it has ended only with no line left.
 pub record Answered {K : Type 0} (held : K → Option (List ℕ)) (faults : K → ℕ) (x y : ClientAnswers K) (s : ClientState) : Type 0 where
   pub written : List Reply
   pub last : Option Reply
   pub replies : reverse s.replies ≡ written ++ option_to_list last
   pub broke : y.failed ≡ is_some last
   pub ended : y.failed ≡ true → s.phase ≡ Ended
+  pub drained : y.failed ≡ false → s.phase ≡ Ended → s.lines ≡ []
   pub texts : HasTexts (held x.sink) (held y.sink) written last
   pub faults_so : FaultsSo (faults x.sink) (faults y.sink) y.failed
   pub lines : y.lines ≡ counted (length written)

@@ -7,11 +7,8 @@ ghost use Rattle.op_model.specs.declared.base.Base.{Base};
 ghost use Rattle.op_model.specs.Transcript.{Line};
 ghost use Rattle.session_machine.specs.Machine.{State, start};
 ghost use Rattle.core_steps.specs.Places.{CoreIs, IsGood, IsSound};
-ghost use Rattle.core_steps.specs.Plays.{Played};
-ghost use Rattle.core_steps.specs.Runs.{Finishes, Runs};
-ghost use Rattle.client_answers.specs.declared.answers.AllAnswers.{AllAnswers as TheAnswers};
-ghost use Rattle.client_answers.specs.Answers.{IsMissed, IsPut, fault_sum};
-ghost use Rattle.client_answers.specs.Written.{AllAnswered, IsFresh};
+ghost use Rattle.client_answers.specs.Plays.{IsPlayed};
+ghost use Rattle.client_answers.specs.Written.{IsFresh};
 
 use crate::answers::AllAnswers;
 use client_events::Rows;
@@ -34,10 +31,8 @@ pub fn play<R: Rows + Drop, K: Sink + Drop>(
     requires fresh { AllByRecursion IsFresh answers.old.list.items }
     ensures played { (d : Dataset) (b : Base) (at : ℕ) (clients : List (List Line × Bool)) → IsGood d b (start d b at clients)
         → CoreIs R.asked (R.stands core.old.rows) (R.drafts core.old.rows) d b core.old.table core.old.clients.items (start d b at clients)
-        → (v : State) × CoreIs R.asked (R.stands core.new.rows) (R.drafts core.new.rows) d b core.new.table core.new.clients.items v × Played d b at clients v
-        × AllAnswered K.held K.faults answers.old.list.items answers.new.list.items v.clients
-        × ((mid : TheAnswers K) × (u : State) × Runs (λ a. fault_sum K.faults a.list.items) (IsPut K.held K.faults) (IsMissed K.held K.faults) d b core.old.clock schedule.now (start d b at clients) answers.old u mid
-        × ((ns : List ℕ) × Finishes (λ a. fault_sum K.faults a.list.items) (IsPut K.held K.faults) (IsMissed K.held K.faults) d b core.old.clock ns u mid v answers.new)) }
+        → (v : State) × CoreIs R.asked (R.stands core.new.rows) (R.drafts core.new.rows) d b core.new.table core.new.clients.items v
+        × IsPlayed K.held K.faults d b at clients core.old.clock schedule.now answers.old answers.new v }
 {
     core.play(alloc, schedule, answers);
 }

@@ -5,7 +5,8 @@ ghost use Rattle.std.specs.Io.KnownBytes.{Appends};
 ghost use Rattle.pcg_base.specs.Causes.{HasCause};
 ghost use Rattle.pcg_base.specs.Told.{AppendsFront, IsFlushed};
 ghost use Rattle.request_lines.specs.Sent.{Puts};
-ghost use Rattle.pcg_serve.specs.Texts.{client_fault_text, fault_name, summary_text};
+ghost use Rattle.call_lines.specs.Statuses.{fault_status};
+ghost use Rattle.call_lines.specs.Texts.{client_fault_text, fault_name, summary_text};
 
 use pcg_base::{Failed, Sink};
 use request_lines::{Page, Written, put_list};
@@ -17,6 +18,21 @@ pub enum Fault {
     ReadFault,
     /// A write of the client's answers failed.
     WriteFault,
+    /// The client's requests have more than 1,073,741,824 bytes.
+    TooLong,
+}
+
+impl Fault {
+    /// The status that the call answers, where this is the fault of the least client with one.
+    pub fn status(&self) -> u8
+        ensures { result ≡ fault_status self.now }
+    {
+        match self {
+            Fault::ReadFault => 2,
+            Fault::WriteFault => 4,
+            Fault::TooLong => 7,
+        }
+    }
 }
 
 /// A client whose session ended in a fault.
@@ -40,11 +56,11 @@ pub struct Summary {
     /// The clients whose sessions ended in a fault, ascending.
     pub faults: Vec<ClientFault>,
     /// How many replies were written.
-    pub lines: u32,
+    pub lines: u64,
     /// How many records the log takes.
     pub records: u64,
     /// How many of the replies refuse their line.
-    pub refused: u32,
+    pub refused: u64,
     /// How many roots aren't retired.
     pub roots: u64,
     /// The status that the call answers, where the output doesn't fail.
@@ -59,6 +75,7 @@ fn name_of(fault: Fault) -> &'static [u8]
     match fault {
         Fault::ReadFault => b"ReadFault",
         Fault::WriteFault => b"WriteFault",
+        Fault::TooLong => b"TooLong",
     }
 }
 
@@ -82,9 +99,9 @@ fn put_summary<K: Sink>(page: &mut Page, out: &mut K, summary: &Summary)
     page.put_number(out, b",\"entries\":", summary.entries as u64);
     page.put(out, b",\"faults\":");
     put_list(page, out, summary.faults.as_slice());
-    page.put_number(out, b",\"lines\":", summary.lines as u64);
+    page.put_number(out, b",\"lines\":", summary.lines);
     page.put_number(out, b",\"records\":", summary.records);
-    page.put_number(out, b",\"refused\":", summary.refused as u64);
+    page.put_number(out, b",\"refused\":", summary.refused);
     page.put_number(out, b",\"roots\":", summary.roots);
     page.put_number(out, b",\"status\":", summary.status as u64);
     page.put(out, b"}\n");

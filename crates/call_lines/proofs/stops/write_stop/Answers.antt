@@ -1,5 +1,5 @@
 use Rattle.request_lines.proofs.Whole.{whole_err, whole_has_cause, on_err_then}
-use Rattle.pcg_serve.proofs.stops.write_stop.Goals as goal
+use Rattle.call_lines.proofs.stops.write_stop.Goals as goal
 
 pub returns-clause-err : goal.returns-clause-err
 returns-clause-err g c =

@@ -1,7 +1,7 @@
 use Rattle.std.proofs.Common.{◌++◌, codes, sym, ap}
 use Rattle.request_lines.specs.Json.{quoted}
 use Rattle.request_lines.proofs.Putting.{puts_then, puts_same}
-use Rattle.pcg_serve.proofs.stops.put_record.Goals as goal
+use Rattle.call_lines.proofs.stops.put_record.Goals as goal
 
 pub returns : goal.returns
 returns g c =

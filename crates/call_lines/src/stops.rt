@@ -5,9 +5,9 @@ ghost use Rattle.std.specs.Io.KnownBytes.{Appends};
 ghost use Rattle.pcg_base.specs.Causes.{HasCause};
 ghost use Rattle.pcg_base.specs.Told.{AppendsFront, IsFlushed};
 ghost use Rattle.request_lines.specs.Sent.{Puts};
-ghost use Rattle.pcg_serve.specs.Texts.{file_name, of_capacity, of_chunk, of_file, of_table, stop_text};
+ghost use Rattle.call_lines.specs.Texts.{file_name, of_capacity, of_chunk, of_file, of_table, of_word, stop_text};
 ghost use Rattle.table_ingest.specs.Faults.{cause_name, table_name};
-ghost use Rattle.pcg_serve.specs.Statuses.{status_of};
+ghost use Rattle.call_lines.specs.Statuses.{status_of};
 
 use pcg_base::{Failed, Sink};
 use request_lines::Page;
@@ -20,6 +20,8 @@ pub enum FileName {
     Supervoxels,
     /// The edge table.
     Edges,
+    /// The schedule.
+    Schedule,
     /// A client's requests.
     Requests,
     /// A client's answers.
@@ -41,7 +43,7 @@ pub enum Stop {
         client: u32,
         file: FileName,
     },
-    /// A table has more bytes than a table may have.
+    /// A table or the schedule has more bytes than it may have.
     TooLong {
         client: u32,
         file: FileName,
@@ -52,6 +54,10 @@ pub enum Stop {
         table: Table,
         row: u64,
         cause: Cause,
+    },
+    /// This word of the schedule, counted from 1, is the first that is no client's number.
+    BadSchedule {
+        word: u64,
     },
     /// A chunk of the base has more nodes than its ids have numbers. It is the first such chunk by
     /// layer, x, y and z.
@@ -66,8 +72,6 @@ pub enum Stop {
         need: u64,
         given: u32,
     },
-    /// The input is of a form that the program doesn't take yet.
-    NotBuilt,
     /// Memory ran out.
     NoMemory,
 }
@@ -83,9 +87,9 @@ impl Stop {
             Stop::WriteFault { .. } => 4,
             Stop::TooLong { .. } => 7,
             Stop::BadTable { .. } => 3,
+            Stop::BadSchedule { .. } => 3,
             Stop::IdsSpent { .. } => 6,
             Stop::TooSmall { .. } => 6,
-            Stop::NotBuilt => 8,
             Stop::NoMemory => 5,
         }
     }
@@ -99,6 +103,7 @@ fn name_of(file: FileName) -> &'static [u8]
     match file {
         FileName::Supervoxels => b"supervoxels",
         FileName::Edges => b"edges",
+        FileName::Schedule => b"schedule",
         FileName::Requests => b"requests",
         FileName::Answers => b"answers",
     }
@@ -139,6 +144,14 @@ fn put_record<K: Sink>(page: &mut Page, out: &mut K, table: Table, row: u64, cau
     page.put(out, b"}\n");
 }
 
+/// Puts the fault line of a word of the schedule.
+fn put_bad_word<K: Sink>(page: &mut Page, out: &mut K, word: u64)
+    ensures { Puts (K.held out.old) (K.held out.new) (K.faults out.old) (K.faults out.new) page.old page.new (of_word word) }
+{
+    page.put_number(out, b"{\"fault\":\"BadSchedule\",\"word\":", word);
+    page.put(out, b"}\n");
+}
+
 /// Puts the fault line of a chunk with too many nodes.
 fn put_spent<K: Sink>(page: &mut Page, out: &mut K, layer: u8, x: u32, y: u32, z: u32)
     ensures { Puts (K.held out.old) (K.held out.new) (K.faults out.old) (K.faults out.new) page.old page.new (of_chunk layer x y z) }
@@ -172,9 +185,9 @@ fn put_stop<K: Sink>(page: &mut Page, out: &mut K, stop: Stop)
         Stop::WriteFault { client, file } => put_file(page, out, client, b"WriteFault", file),
         Stop::TooLong { client, file } => put_file(page, out, client, b"TooLong", file),
         Stop::BadTable { table, row, cause } => put_record(page, out, table, row, cause),
+        Stop::BadSchedule { word } => put_bad_word(page, out, word),
         Stop::IdsSpent { layer, x, y, z } => put_spent(page, out, layer, x, y, z),
         Stop::TooSmall { need, given } => put_small(page, out, need, given),
-        Stop::NotBuilt => page.put(out, b"{\"fault\":\"NotBuilt\"}\n"),
         Stop::NoMemory => page.put(out, b"{\"fault\":\"NoMemory\"}\n"),
     }
 }

@@ -1,5 +1,5 @@
 use Rattle.request_lines.proofs.Putting.{puts_then}
-use Rattle.pcg_serve.proofs.stops.put_spent.Goals as goal
+use Rattle.call_lines.proofs.stops.put_spent.Goals as goal
 
 pub returns : goal.returns
 returns g c = puts_then c.put_word.ensures (puts_then c.put_number.ensures (puts_then c.put_number-2.ensures (puts_then c.put_number-3.ensures (puts_then c.put_number-4.ensures c.put.ensures))))

@@ -1,8 +1,8 @@
 use Rattle.std.proofs.Common.{sym, ap, map}
 use Rattle.request_lines.specs.Json.{array}
 use Rattle.request_lines.proofs.Putting.{puts_then, puts_same}
-use Rattle.pcg_serve.specs.Texts.{client_fault_text, summary_line}
-use Rattle.pcg_serve.proofs.summary.put_summary.Goals as goal
+use Rattle.call_lines.specs.Texts.{client_fault_text, summary_line}
+use Rattle.call_lines.proofs.summary.put_summary.Goals as goal
 
 pub returns : goal.returns
 unfolding summary_line

@@ -4,19 +4,20 @@ use Rattle.request_lines.specs.Json.{array, line, member, quoted}
 use Rattle.table_ingest.specs.Faults.{cause_name, table_name}
 use Rattle.table_ingest.specs.declared.errors.Table.{Table}
 use Rattle.table_ingest.specs.declared.errors.Cause.{Cause}
-use Rattle.pcg_serve.specs.declared.stops.FileName.{FileName}
-use Rattle.pcg_serve.specs.declared.stops.FileName.TheVariants as files
-use Rattle.pcg_serve.specs.declared.stops.Stop.{Stop}
-use Rattle.pcg_serve.specs.declared.stops.Stop.TheVariants as stops
-use Rattle.pcg_serve.specs.declared.summary.ClientFault.{ClientFault}
-use Rattle.pcg_serve.specs.declared.summary.Fault.{Fault}
-use Rattle.pcg_serve.specs.declared.summary.Fault.TheVariants as faults
-use Rattle.pcg_serve.specs.declared.summary.Summary.{Summary}
+use Rattle.call_lines.specs.declared.stops.FileName.{FileName}
+use Rattle.call_lines.specs.declared.stops.FileName.TheVariants as files
+use Rattle.call_lines.specs.declared.stops.Stop.{Stop}
+use Rattle.call_lines.specs.declared.stops.Stop.TheVariants as stops
+use Rattle.call_lines.specs.declared.summary.ClientFault.{ClientFault}
+use Rattle.call_lines.specs.declared.summary.Fault.{Fault}
+use Rattle.call_lines.specs.declared.summary.Fault.TheVariants as faults
+use Rattle.call_lines.specs.declared.summary.Summary.{Summary}
 
 -- the name of a file in a fault line
 unfoldable pub file_name : FileName → List ℕ
 file_name files.Supervoxels = codes "supervoxels"
 file_name files.Edges = codes "edges"
+file_name files.Schedule = codes "schedule"
 file_name files.Requests = codes "requests"
 file_name files.Answers = codes "answers"
 
@@ -35,6 +36,10 @@ of_table table row cause =
     line
     (member (codes "cause") (quoted (cause_name cause)) ∷ member (codes "fault") (quoted (codes "BadTable")) ∷ member (codes "row") (decimal row)
     ∷ member (codes "table") (quoted (table_name table)) ∷ [])
+
+-- a word of the schedule that is no client's number
+abbrev pub of_word : ℕ → List ℕ
+of_word word = line (member (codes "fault") (quoted (codes "BadSchedule")) ∷ member (codes "word") (decimal word) ∷ [])
 
 -- a chunk with more nodes than its ids have numbers
 abbrev pub of_chunk : ℕ → ℕ → ℕ → ℕ → List ℕ
@@ -55,15 +60,16 @@ stop_text (stops.ReadFault client file) = of_file client (codes "ReadFault") fil
 stop_text (stops.WriteFault client file) = of_file client (codes "WriteFault") file
 stop_text (stops.TooLong client file) = of_file client (codes "TooLong") file
 stop_text (stops.BadTable table row cause) = of_table table row cause
+stop_text (stops.BadSchedule word) = of_word word
 stop_text (stops.IdsSpent layer x y z) = of_chunk layer x y z
 stop_text (stops.TooSmall need given) = of_capacity need given
-stop_text stops.NotBuilt = bare (codes "NotBuilt")
 stop_text stops.NoMemory = bare (codes "NoMemory")
 
 -- the name of a session's fault
 unfoldable pub fault_name : Fault → List ℕ
 fault_name faults.ReadFault = codes "ReadFault"
 fault_name faults.WriteFault = codes "WriteFault"
+fault_name faults.TooLong = codes "TooLong"
 
 -- a client and its fault
 abbrev pub client_fault_text : ClientFault → List ℕ
