@@ -148,7 +148,8 @@ fn put_record<K: Sink>(page: &mut Page, out: &mut K, table: Table, row: u64, cau
 fn put_bad_word<K: Sink>(page: &mut Page, out: &mut K, word: u64)
     ensures { Puts (K.held out.old) (K.held out.new) (K.faults out.old) (K.faults out.new) page.old page.new (of_word word) }
 {
-    page.put_number(out, b"{\"fault\":\"BadSchedule\",\"word\":", word);
+    page.put_word(out, b"{\"fault\":", b"BadSchedule");
+    page.put_number(out, b",\"word\":", word);
     page.put(out, b"}\n");
 }
 
