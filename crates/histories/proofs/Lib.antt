@@ -1,3 +1,5 @@
 pub mod Prefixes
 pub mod Roots
 pub mod Leaves
+pub mod Counts
+pub mod Live

@@ -1,5 +1,5 @@
 -- The roots that each entry of a legal log made, and those that it left alone.
-use Rattle.std.proofs.Common.{◌≡◌, ℕ, true, false, List, [], ◌∷◌, map, refl, sym, ◌∙◌, ap, ap₂, subst, inl, inr}
+use Rattle.std.proofs.Common.{◌≡◌, ℕ, true, false, List, [], ◌∷◌, map, sym, ◌∙◌, ap, subst, inl, inr}
 use Rattle.std.proofs.lemmas.Bool.{false_from_ne_true}
 use Rattle.op_model.specs.declared.base.Dataset.{Dataset}
 use Rattle.op_model.specs.declared.base.Base.{Base}
@@ -19,35 +19,37 @@ use Rattle.op_model.proofs.MadeLemmas.{ascending_only, map_only, root_same}
 use Rattle.layer_laws.proofs.RemakeLemmas.{ends_touch, touches_more}
 use Rattle.change_laws.proofs.NearEnds.{known_end, made_roots, retired_end}
 
-map_same : (f g : ℕ → ℕ) → ((x : ℕ) → f x ≡ g x) → (xs : List ℕ) → map f xs ≡ map g xs
-map_same f g h [] = refl
-map_same f g h (x ∷ xs) = ap₂ (λ y ys. y ∷ ys) (h x) (map_same f g h xs)
+-- what the first entry is but for the roots that it made
+abbrev ingest : ℕ → Entry
+ingest at = record { number = 0; client = 0; line = 0; at = at; asked = asked.Ingest; changed = []; retired = []; made = [] }
 
 module _ (d : Dataset) (b : Base) where
-  -- the first entry made the root of each supervoxel
-  pub first_roots : (e : Entry) → Legal d b (e ∷ []) → e.made ≡ ascending (map (root d b (e ∷ [])) b.supervoxels)
+  -- the first entry made all roots
+  pub first_roots : (e : Entry) → Legal d b (e ∷ []) → e.made ≡ ascending (map (root d b (ingest e.at ∷ [])) b.supervoxels)
   unfolding first_entry
-  first_roots e legal =
-      let q = legal.0 in
-      let first : Entry = record { number = 0; client = 0; line = 0; at = e.at; asked = asked.Ingest; changed = []; retired = []; made = [] } in
-      let m : e.made ≡ ascending (map (root d b (first ∷ [])) b.supervoxels) = ap (λ x. x.made) q in
-      let c : e.changed ≡ [] = ap (λ x. x.changed) q in
-      m ∙ ap ascending (map_same (root d b (first ∷ [])) (root d b (e ∷ [])) (λ u. sym (root_same d b e first [] u c)) b.supervoxels)
+  first_roots e legal = ap (λ x. x.made) legal.0
 
   -- and retired none
   pub first_retires : (e : Entry) → Legal d b (e ∷ []) → e.retired ≡ []
   unfolding first_entry
   first_retires e legal = ap (λ x. x.retired) legal.0
 
+  root_first : (e : Entry) (v : ℕ) → Legal d b (e ∷ []) → root d b (e ∷ []) v ≡ root d b (ingest e.at ∷ []) v
+  unfolding first_entry
+  root_first e v legal = root_same d b e (ingest e.at) [] v (ap (λ x. x.changed) legal.0)
+
   pub first_made : (e : Entry) (v : ℕ) → Legal d b (e ∷ []) → has b.supervoxels v ≡ true → has e.made (root d b (e ∷ []) v) ≡ true
   first_made e v legal hv =
+      let first = root d b (ingest e.at ∷ []) in
+      let all : List ℕ = ascending (map first b.supervoxels) in
       subst (λ xs. has xs (root d b (e ∷ []) v) ≡ true) (sym (first_roots e legal))
-      (ascending_has (map (root d b (e ∷ [])) b.supervoxels) (root d b (e ∷ []) v) (map_has (root d b (e ∷ [])) b.supervoxels v hv))
+      (subst (λ x. has all x ≡ true) (sym (root_first e v legal)) (ascending_has (map first b.supervoxels) (first v) (map_has first b.supervoxels v hv)))
 
   pub first_made_root : (e : Entry) (r : ℕ) → Legal d b (e ∷ []) → has e.made r ≡ true → (v : ℕ) × (has b.supervoxels v ≡ true) × (root d b (e ∷ []) v ≡ r)
   first_made_root e r legal h =
-      map_only (root d b (e ∷ [])) b.supervoxels r
-      (ascending_only (map (root d b (e ∷ [])) b.supervoxels) r (subst (λ xs. has xs r ≡ true) (first_roots e legal) h))
+      let first = root d b (ingest e.at ∷ []) in
+      let v = map_only first b.supervoxels r (ascending_only (map first b.supervoxels) r (subst (λ xs. has xs r ≡ true) (first_roots e legal) h)) in
+      (v.0, v.1, root_first e v.0 legal ∙ v.2)
 
 module _ (d : Dataset) (b : Base) (valid : IsDataset d) (base : IsBase d b) where
   -- an entry made the root of each of its ends
