@@ -3,3 +3,4 @@ pub mod Roots
 pub mod Leaves
 pub mod Counts
 pub mod Live
+pub mod EachLog

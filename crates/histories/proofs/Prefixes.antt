@@ -4,12 +4,9 @@ use Rattle.std.proofs.lemmas.Bool.{leb-true, leb-false, le-leb}
 use Rattle.op_model.specs.declared.base.Dataset.{Dataset}
 use Rattle.op_model.specs.declared.base.Base.{Base}
 use Rattle.op_model.specs.declared.entry.Entry.{Entry}
-use Rattle.op_model.specs.Labels.{Joined, node}
 use Rattle.op_model.specs.Refusals.{first_at, last_at, prefix_at}
-use Rattle.op_model.specs.Valid.{IsDataset, IsBase}
 use Rattle.op_model.specs.Legal.{Legal}
-use Rattle.op_model.proofs.HistoryLemmas.{legal_prefix, node_stays}
-use Rattle.histories.specs.Histories.{IdsStay}
+use Rattle.op_model.proofs.HistoryLemmas.{legal_prefix}
 
 module _ (d : Dataset) (b : Base) where
   -- the entries up to a time that isn't before the newest entry are all
@@ -62,15 +59,3 @@ module _ (d : Dataset) (b : Base) where
       let n = newer_to t (last_at log + t) log legal (omega arith) in
       let whole : log ≡ n.0 ++ p.0 ∷ p.1 = sym (all_to (last_at log + t) log legal (omega arith)) ∙ (n.1 ∙ ap (λ xs. n.0 ++ xs) p.2) in
       subst (Legal d b) (sym p.2) (legal_prefix d b n.0 p.0 p.1 (subst (Legal d b) whole legal))
-
--- a node that has an id at one time and at a later one kept it in between
-pub ids_stay : (d : Dataset) (b : Base) (log : List Entry) → IsDataset d → IsBase d b → Legal d b log → IdsStay d b log
-ids_stay d b log valid base legal s t u layer v w early mid late end hl hv hw same =
-    let p = some_to d b s log legal early in
-    let n = newer_to d b s t log legal mid in
-    let m = newer_to d b t u log legal late in
-    let at_t : prefix_at log t ≡ n.0 ++ p.0 ∷ p.1 = n.1 ∙ ap (λ xs. n.0 ++ xs) p.2 in
-    let at_u : prefix_at log u ≡ m.0 ++ (n.0 ++ p.0 ∷ p.1) = m.1 ∙ ap (λ xs. m.0 ++ xs) at_t in
-    let now = sym (ap (λ x. node d b x layer v) p.2) ∙ (same ∙ ap (λ x. node d b x layer w) at_u) in
-    let stays = node_stays d b m.0 n.0 p.0 p.1 layer v w valid.layout (subst (Legal d b) at_u (legal_to d b u log legal (omega (arith, early, mid, late)))) hl hv hw now in
-    (ap (λ x. node d b x layer v) at_t ∙ (stays.0 ∙ sym (ap (λ x. node d b x layer v) p.2)), subst (λ x. Joined d b x layer v w) (sym at_u) stays.1)

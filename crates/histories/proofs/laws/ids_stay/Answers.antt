@@ -1,4 +1,4 @@
-use Rattle.histories.proofs.Prefixes.{ids_stay}
+use Rattle.histories.proofs.EachLog.{ids_stay}
 use Rattle.histories.proofs.laws.ids_stay.Goals as goal
 
 pub returns : goal.returns
