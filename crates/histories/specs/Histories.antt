@@ -19,6 +19,10 @@ unfoldable pub live_roots : List Entry → List ℕ
 live_roots [] = []
 live_roots (e ∷ log) = filter (λ r. not (has e.retired r)) (live_roots log) ++ e.made
 
+-- An entry takes as many live roots away as it retired, and puts as many there as it made.
+abbrev pub IsCounted : Entry → List Entry → Type 0
+IsCounted e log = length (live_roots (e ∷ log)) + length e.retired ≡ length (live_roots log) + length e.made
+
 -- the first entry is of no client, and each other one of one of so many clients, who are counted from 1
 abbrev pub EntriesOwned : ℕ → List Entry → Type 0
 EntriesOwned clients [] = ⊤
@@ -45,14 +49,10 @@ module _ (d : Dataset) (b : Base) where
       → node d b (prefix_at log s) layer v ≡ node d b (prefix_at log u) layer w
       → (node d b (prefix_at log t) layer v ≡ node d b (prefix_at log s) layer v) × Joined d b (prefix_at log u) layer v w
 
-  -- An entry takes as many live roots away as it retired, and puts as many there as it made.
-  abbrev pub IsCounted : Entry → List Entry → Type 0
-  IsCounted e log = length (live_roots (e ∷ log)) + length e.retired ≡ length (live_roots log) + length e.made
-
 -- this holds of each legal log over a dataset and a base
 abbrev pub OfEachLog : (Dataset → Base → List Entry → Type 0) → Type 0
 OfEachLog P = (d : Dataset) (b : Base) (log : List Entry) → IsDataset d → IsBase d b → Legal d b log → P d b log
 
 -- the newest entry of each legal log is counted
 abbrev pub LiveRootsAreCounted : Type 0
-LiveRootsAreCounted = (d : Dataset) (b : Base) (e : Entry) (log : List Entry) → IsDataset d → IsBase d b → Legal d b (e ∷ log) → IsCounted d b e log
+LiveRootsAreCounted = (d : Dataset) (b : Base) (e : Entry) (log : List Entry) → IsDataset d → IsBase d b → Legal d b (e ∷ log) → IsCounted e log
