@@ -65,3 +65,29 @@ pub fn read_tables<P: Place>(alloc: Global, job: &RehearseJob, place: &mut P) ->
     };
     make_ingest(alloc, job, supervoxels.as_slice(), edges.as_slice())
 }
+
+// The contract that `read_input` is to have:
+
+/// What a rehearsal begins with.
+#[derive(Drop)]
+pub struct JobBase {
+    /// What is fixed for the log.
+    pub dataset: Dataset,
+    /// The words of the base's first entry, with room for all records of the capacity.
+    pub words: VecWords,
+    /// The clients that the schedule names, in order, counted from 1.
+    pub schedule: Vec<u32>,
+}
+
+/// Reads the two tables of a job and its schedule, and makes the words of the base.
+pub fn read_input<P: Place>(alloc: Global, job: &RehearseJob, place: &mut P) -> Result<JobBase, Stop>
+    requires { IsRehearse job.now }
+    ensures made { IfOk result (IsRead (P.files place.old) job.now) }
+    ensures read { OnOk result (AllRead (P.files place.old) (P.left_at place.new) job.now) }
+    ensures still { OnOk result ((P.read_faults place.new ≡ P.read_faults place.old)) }
+    ensures still_here { OnOk result ((n : List ℕ) → P.counts place.new n ≡ P.counts place.old n) }
+    ensures stop { IfErr result (InputStop job.now (seen P.files P.left_at P.read_faults P.write_faults P.counts place.old) (seen P.files P.left_at P.read_faults P.write_faults P.counts place.new)) }
+    ensures later { IsLater (seen P.files P.left_at P.read_faults P.write_faults P.counts place.old) (seen P.files P.left_at P.read_faults P.write_faults P.counts place.new) }
+    ensures files { KeepsFiles (P.files place.old) (P.files place.new) }
+    ensures writes { P.write_faults place.new ≡ P.write_faults place.old }
+    ensures only_left { (n : List ℕ) → n ≢ job.supervoxels → n ≢ job.edges → .. not the schedule's name .. → P.left_at place.new n ≡ P.left_at place.old n }   -- only if a caller wants it: leave out

@@ -1,0 +1,15 @@
+//! What a rehearsal reads before its clients' files: two tables and a schedule, and the words of the
+//! base that the tables spell.
+//!
+//! The promise: the first step that fails decides. Bad tables, a bad schedule and a base whose
+//! records can't be had are answered exactly where the bytes at the place say so, unless a read
+//! failed or memory ran out before.
+//!
+//! - `tables`: the texts are read, and the steps behind them
+//! - `bases`: what two tables make
+#![tactic(auto)]
+
+mod bases;
+mod tables;
+
+pub use tables::{JobBase, read_input};
