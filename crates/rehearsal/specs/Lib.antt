@@ -1,3 +1,5 @@
 pub mod Clients
 pub mod History
 pub mod Outcomes
+pub mod Printing
+pub mod Served
