@@ -1,5 +1,5 @@
 -- Why a job's tables and schedule gave nothing to begin with.
-use Rattle.std.specs.Prelude.{◌≡◌, ◌⊎◌, ⊤, ⊥, ℕ, List, [], Option, Some, None}
+use Rattle.std.specs.Prelude.{◌≡◌, ◌⊎◌, ⊤, ℕ, List, [], Option, Some, None}
 use Rattle.op_model.specs.declared.base.Base.{Base}
 use Rattle.pcg_base.specs.Told.{Files, IsLongerAt}
 use Rattle.pcg_words.specs.declared.job.RehearseJob.{RehearseJob}
