@@ -12,8 +12,7 @@ use Rattle.op_model.specs.Records.{records}
 use Rattle.op_model.proofs.HistoryLemmas.{legal_prefix}
 use Rattle.pcg_base.specs.Told.{AppendsFront}
 use Rattle.pcg_base.proofs.Appending.{appends_more}
-use Rattle.record_rows.specs.LogRows.{rows_of}
-use Rattle.record_rows.specs.Readings.{ForEachLog, Image, ParentImage}
+use Rattle.record_rows.specs.Readings.{ForEachLog, Image}
 use Rattle.record_rows.proofs.BaseCounts.{counted}
 use Rattle.record_rows.proofs.EntryRecords.{number_told}
 use Rattle.record_rows.proofs.ImageFacts.{parent_image}

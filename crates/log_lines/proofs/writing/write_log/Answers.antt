@@ -1,10 +1,9 @@
-use Rattle.std.proofs.Common.{◌≡◌, ◌+◌, ◌*◌, ◌^◌, ◌/◌, ◌<◌, length, Some, None, refl, sym, ◌∙◌, ap, subst, arith}
+use Rattle.std.proofs.Common.{◌/◌, ◌<◌, length, refl, sym, ◌∙◌, ap, subst, arith}
 use Rattle.record_rows.specs.Readings.{Image, ParentImage}
 use Rattle.record_rows.proofs.ImageFacts.{parent_image}
 use Rattle.record_rows.proofs.WalkLemmas.{steps_left}
 use Rattle.log_rows.specs.Entries.{AtEntry, InEntry}
 use Rattle.log_rows.proofs.TimePlaces.{some_entry}
-use Rattle.histories.specs.Histories.{LiveRootsAreCounted}
 use Rattle.log_lines.proofs.Walk.{Written, begun, ended, entry_now, front_on, in_entry, nearer, records_counted, roots_few, roots_left, stands_now, written_on}
 use Rattle.log_lines.proofs.writing.write_log.Goals as goal
 
