@@ -11,7 +11,7 @@ use Rattle.request_lines.specs.Texts.{text_of_reply}
 use Rattle.pcg_base.specs.Causes.{Rose, added}
 use Rattle.pcg_base.specs.declared.reading.StreamEnd.{StreamEnd}
 use Rattle.pcg_base.specs.declared.reading.StreamEnd.TheVariants as ends
-use Rattle.pcg_base.specs.Told.{Files, LeavesNone, TellsAt, TellsTo}
+use Rattle.pcg_base.specs.Told.{Files, KeepsFiles, LeavesNone, TellsAt, TellsTo}
 use Rattle.pcg_words.specs.Job.{answer_file, request_file}
 use Rattle.client_answers.specs.Written.{FaultsSo, HasTexts, texts}
 use Rattle.stream_lines.specs.Streams.{EndsIn, EndsTold}
@@ -57,11 +57,11 @@ answers_are : (files mid new : Option Files) (names : List (List ℕ)) (name : L
 answers_are None mid new names name held held' written last e t a h = tt
 answers_are (Some m) mid new names name held held' written last e t a h =
     let at : IsAt (Some _) new name held' = subst (λ f. IsAt f new name held') e a in
-    subst (λ f. HasAnswers (Some m) f name written last) (sym at.3) (at.0, (at.4, go last (subst (λ x. HasTexts x held' written last) t h) at.2))
+    subst (λ f. HasAnswers (Some m) f name written last) (sym at.3) (at.0, at.4, go last (subst (λ x. HasTexts x held' written last) t h) at.2)
   where
     go : (last : Option Reply) → HasTexts (Some []) held' written last → {answers : List ℕ} → held' ≡ Some answers → AreTexts answers written last
     go None h e = subst (λ x. Appends (Some []) x (texts written)) e h
-    go (Some r) h e = (h.0, (h.1, (h.2, subst (λ x. Appends (Some []) x (texts written ++ h.0)) e h.3)))
+    go (Some r) h e = (h.0, h.1, h.2, subst (λ x. Appends (Some []) x (texts written ++ h.0)) e h.3)
 
 -- a count to which nothing was added, and one to which something was
 added_none : (c f now : ℕ) → now ≡ added c f → c ≤ now → f ≡ 0 → now ≡ c
@@ -107,8 +107,6 @@ pub record IsKept (requests answers : List (List ℕ)) (sources sinks : List (Op
 pub told_mid : (requests answers : List (List ℕ)) (sources sinks : List (Option (List ℕ) × ℕ)) (a b c d : Seen) → IsKept requests answers sources sinks a b c d → Empties a.files answers c.files
 told_mid requests answers sources sinks a b c d k = go a.files b.files k.opened.files k.kept_in.files
   where
-    use Rattle.pcg_base.specs.Told.{KeepsFiles}
-
     go : (f g : Option Files) → Empties f answers g → KeepsFiles g c.files → Empties f answers c.files
     go None g e h = tt
     go (Some m) g e h = subst (λ x. KeepsFiles x c.files) e h

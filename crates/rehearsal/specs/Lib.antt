@@ -1,4 +1,5 @@
 pub mod Clients
+pub mod Exact
 pub mod History
 pub mod Outcomes
 pub mod Printing
