@@ -1,3 +1,4 @@
 pub mod Zips
 pub mod OneClient
 pub mod Serving
+pub mod Prints

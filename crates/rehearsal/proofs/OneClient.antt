@@ -16,7 +16,7 @@ use Rattle.pcg_words.specs.Job.{answer_file, request_file}
 use Rattle.client_answers.specs.Written.{FaultsSo, HasTexts, texts}
 use Rattle.stream_lines.specs.Streams.{EndsIn, EndsTold}
 use Rattle.job_files.specs.Seen.{ReadBroke, Seen, WriteBroke}
-use Rattle.job_files.specs.Clients.{AnswersOpen, Empties}
+use Rattle.job_files.specs.Clients.{AnswersOpen, Empties, emptied}
 use Rattle.job_files.specs.Kept.{AreKeptIn, AreKeptOut, IsAt, IsKeptIn, IsKeptOut}
 use Rattle.session_results.specs.Results.{IsSession, SessionResult, Streams}
 use Rattle.rehearsal.specs.Clients.{AreTexts, HasAnswers, IsClient, LinesAre, ReadsSo, TakenAt, WritesSo, broke}
@@ -56,7 +56,7 @@ answers_are : (files mid new : Option Files) (names : List (List ℕ)) (name : L
     → IsAt mid new name held' → HasTexts held held' written last → HasAnswers files new name written last
 answers_are None mid new names name held held' written last e t a h = tt
 answers_are (Some m) mid new names name held held' written last e t a h =
-    let at : IsAt (Some _) new name held' = subst (λ f. IsAt f new name held') e a in
+    let at : IsAt (Some (emptied m names)) new name held' = subst (λ f. IsAt f new name held') e a in
     subst (λ f. HasAnswers (Some m) f name written last) (sym at.3) (at.0, at.4, go last (subst (λ x. HasTexts x held' written last) t h) at.2)
   where
     go : (last : Option Reply) → HasTexts (Some []) held' written last → {answers : List ℕ} → held' ≡ Some answers → AreTexts answers written last
@@ -133,11 +133,11 @@ module _ (d : Dataset) (b : Base) (log : List Entry) (requests answers : List (L
         each = h.each;
         answers = answers_are s.files u.files v.files answers (answer_file stem) x.held x.held' r.written r.last mid empty kout.file h.texts;
         reads = reads_so r.ending h.taken (request_file stem) r.lines x.left x.left' x.read_faults' s v ends0
-          (here ∙ kin.faults ∙ ap (λ c. added c x.read_faults') was)
-          (omega (arith, kin.later, here, was))
-          (λ p. omega (arith, kin.rose p, k.kept_out.reads, k.opened.reads));
+            (here ∙ kin.faults ∙ ap (λ c. added c x.read_faults') was)
+            (omega (arith, kin.later, here, was))
+            (λ p. omega (arith, kin.rose p, k.kept_out.reads, k.opened.reads));
         writes = writes_so (is_some r.last) (answer_file stem) x.write_faults' s v broke0
-          (kout.faults ∙ ap (λ c. added c x.write_faults') (here_in ∙ was_out))
-          (omega (arith, kout.later, here_in, was_out))
-          (λ p. omega (arith, kout.rose p, k.kept_in.writes, k.opened.writes));
+            (kout.faults ∙ ap (λ c. added c x.write_faults') (here_in ∙ was_out))
+            (omega (arith, kout.later, here_in, was_out))
+            (λ p. omega (arith, kout.rose p, k.kept_in.writes, k.opened.writes));
       }

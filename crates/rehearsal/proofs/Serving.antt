@@ -22,17 +22,10 @@ use Rattle.session_results.specs.declared.playing.SessionsDone.{SessionsDone}
 use Rattle.session_results.specs.Ended.{AreDone, AreLines, Source, streams_of}
 use Rattle.session_results.specs.Results.{AllSessions, SessionResult}
 use Rattle.rehearsal.specs.Clients.{AllClients, broke}
+use Rattle.rehearsal.specs.Played.{sources_of}
 use Rattle.rehearsal.specs.Served.{AreServed}
 use Rattle.rehearsal.proofs.OneClient.{IsKept, one_client, unbroken, unfailed}
 use Rattle.rehearsal.proofs.Zips.{ZipAll, length_map, zip_each}
-
--- a source that was opened, and kept back with this left and so many faults
-abbrev source_of : Option (List ℕ) → Option (List ℕ) × ℕ → Source
-source_of left x = record { left = left; left' = x.0; faults = 0; faults' = x.1 }
-
-pub sources_of : List (Option (List ℕ)) → List (Option (List ℕ) × ℕ) → List Source
-sources_of (left ∷ lefts) (x ∷ xs) = source_of left x ∷ sources_of lefts xs
-sources_of lefts xs = []
 
 pub are_lines : (lefts : List (Option (List ℕ))) (xs : List (Option (List ℕ) × ℕ)) (rs : List StreamLines) → AreRead lefts xs rs → AreLines (sources_of lefts xs) rs
 unfolding sources_of
@@ -89,9 +82,10 @@ module _ {S K : Type 0} (left : S → Option (List ℕ)) (faults : S → ℕ) (h
   all_clients client (stem ∷ stems) (x ∷ xs) [] (k ∷ ks) ms rs o e zi zo h = absurd zi
   all_clients client (stem ∷ stems) (x ∷ xs) (i ∷ is) (k ∷ ks) [] rs o e zi zo h = absurd zo
   all_clients client (stem ∷ stems) (x ∷ xs) (i ∷ is) (k ∷ ks) (m ∷ ms) [] o e zi zo h = absurd h
-  all_clients client (stem ∷ stems) (x ∷ xs) (i ∷ is) (k ∷ ks) (m ∷ ms) (r ∷ rs) o e zi zo h =
-      (one_client d b log requests answers in_kept out_kept s t u v kept client stem _ r o.0 refl e.0 e.1 zi.0 zo.0 h.0,
-        all_clients (client + 1) stems xs is ks ms rs o.2 e.3 zi.1 zo.1 h.1)
+  all_clients client (stem ∷ stems) (x ∷ xs) (i ∷ is) (k ∷ ks) (m ∷ ms) (r ∷ rs) o e zi zo h = (
+    one_client d b log requests answers in_kept out_kept s t u v kept client stem _ r o.0 refl e.0 e.1 zi.0 zo.0 h.0,
+    all_clients (client + 1) stems xs is ks ms rs o.2 e.3 zi.1 zo.1 h.1,
+  )
 
   -- sources of streams that weren't broken never failed
   none_broke : (client : ℕ) (lefts : List (Option (List ℕ))) (is : List (Option (List ℕ) × ℕ)) (ks ms : List (ClientAnswers K)) (rs : List SessionResult)
@@ -117,9 +111,10 @@ module _ {S K : Type 0} (left : S → Option (List ℕ)) (faults : S → ℕ) (h
   none_failed client (n ∷ names) (l ∷ lefts) [] ks (m ∷ ms) rs a f e g h q = absurd (omega (arith, a))
   none_failed client (n ∷ names) (l ∷ lefts) (i ∷ is) [] (m ∷ ms) rs a f e g h q = absurd e
   none_failed client (n ∷ names) (l ∷ lefts) (i ∷ is) (k ∷ ks) (m ∷ ms) [] a f e g h q = absurd h
-  none_failed client (n ∷ names) (l ∷ lefts) (i ∷ is) (k ∷ ks) (m ∷ ms) (r ∷ rs) a f e g h q =
-      (unfailed r.last (out_faults m.sink) (subst (λ z. FaultsSo z (out_faults m.sink) (is_some r.last)) e.1 h.0.broke) q.0,
-        none_failed (client + 1) names lefts is ks ms rs (omega (arith, a)) (omega (arith, f)) e.3 (omega (arith, g)) h.1 q.1)
+  none_failed client (n ∷ names) (l ∷ lefts) (i ∷ is) (k ∷ ks) (m ∷ ms) (r ∷ rs) a f e g h q = (
+    unfailed r.last (out_faults m.sink) (subst (λ z. FaultsSo z (out_faults m.sink) (is_some r.last)) e.1 h.0.broke) q.0,
+    none_failed (client + 1) names lefts is ks ms rs (omega (arith, a)) (omega (arith, f)) e.3 (omega (arith, g)) h.1 q.1,
+  )
 
   pub served : (stems : List (List ℕ)) (xs : List S) (read : List StreamLines) (ks ms : List (ClientAnswers K)) (clock : Ticks) (schedule : List ℕ) (done : SessionsDone)
       → requests ≡ map request_file stems → answers ≡ map answer_file stems → out_kept ≡ map (kept_of held out_faults) ms
@@ -150,7 +145,7 @@ module _ {S K : Type 0} (left : S → Option (List ℕ)) (faults : S → ℕ) (h
         clients = all_clients 1 stems xs in_kept ks ms q.results o e zi zo sessions;
         reads = λ z. stay (none_broke 1 (map left xs) in_kept ks ms q.results n_kept (omega (arith, n_ks, answers_are, n_left, n_xs, requests_are)) (omega (arith, count, n_ks, answers_are, n_left, n_xs, requests_are)) sessions z);
         writes = λ z. stand (subst (AllByRecursion (λ x. x.1 ≡ 0)) (sym eo)
-          (none_failed 1 (map answer_file stems) (map left xs) in_kept ks ms q.results n_kept (omega (arith, answers_are, n_left, n_xs, requests_are)) e (omega (arith, count, n_ks)) sessions z));
+            (none_failed 1 (map answer_file stems) (map left xs) in_kept ks ms q.results n_kept (omega (arith, answers_are, n_left, n_xs, requests_are)) e (omega (arith, count, n_ks)) sessions z));
         play = record { state = q.state; play = q.play; last = same ∙ q.last; replied = q.replied };
         faults_so = q.faults_so;
         lines = q.lines;

@@ -38,7 +38,7 @@ HasLongStream m job = (k : ℕ) × (name : List ℕ) × (slice_get (requests_of 
 abbrev pub IsDue : Option Files → RehearseJob → ℕ → Type 0
 IsDue None job status = ⊥
 IsDue (Some m) job status =
-    ((status ≡ 3) × (HasBadTable (Some m) job ⊎ HasBadSchedule (Some m) job))
+    ((status ≡ 3) × (¬ (HasLongText (Some m) job)) × (HasBadTable (Some m) job ⊎ HasBadSchedule (Some m) job))
     ⊎ ((status ≡ 7) × HasLongText (Some m) job)
     ⊎ ((status ≡ 6) × HasFullBase (Some m) job)
 

@@ -38,10 +38,10 @@ HasInput files job =
     (b : Base) × HasBase files job b × ((e : BuildError) → IsFull (dataset_of job) b e → ⊥) × (numbers : List ℕ) × HasSchedule files job numbers
 
 -- The answers of this client couldn't be opened: those before them are empty files, and all requests were kept back whole.
-abbrev pub AnswersFailed : RehearseJob → Seen → Seen → ℕ → Type 0
-AnswersFailed job old new client =
-    (name : List ℕ) × (slice_get (answers_of job) (pred client) ≡ Some name) × (1 ≤ client) × WriteRose old new name × Empties old.files (take (pred client) (answers_of job)) new.files
-    × (new.reads ≡ old.reads) × FrontWhole (length job.stems) (requests_of job) old.files new.left
+abbrev pub AnswersFailed : List (List ℕ) → List (List ℕ) → Seen → Seen → ℕ → Type 0
+AnswersFailed requests answers old new client =
+    (name : List ℕ) × (slice_get answers (pred client) ≡ Some name) × (1 ≤ client) × WriteRose old new name × Empties old.files (take (pred client) answers) new.files
+    × (new.reads ≡ old.reads) × FrontWhole (length requests) requests old.files new.left
 
 -- where a place tells its bytes, the file at each of these names is empty or as it was, and all others are as they were
 abbrev pub AreEmptyOrSame : List (List ℕ) → Option Files → Option Files → Type 0
@@ -49,12 +49,15 @@ AreEmptyOrSame names None new = ⊤
 AreEmptyOrSame names (Some m) None = ⊥
 AreEmptyOrSame names (Some m) (Some m') = (k : ℕ) (name : List ℕ) → slice_get names k ≡ Some name → (get m' name ≡ Some []) ⊎ (get m' name ≡ get m name)
 
--- Why the sessions didn't begin, and what the files are then: requests are opened before answers, and both before a request is read. Where memory ran out no answer file has a byte that it hadn't.
+-- Why the sessions over these requests and answers didn't begin, and what the files are then: requests are opened before answers, and both before a request is read. Where memory ran out no answer file has a byte that it hadn't.
+abbrev pub SessionsStop : List (List ℕ) → List (List ℕ) → Seen → Seen → Stop → Type 0
+SessionsStop requests answers old new (stops.ReadFault client files.Requests) = RequestsShut requests old new (opens.Failed client)
+SessionsStop requests answers old new (stops.WriteFault client files.Answers) = AnswersFailed requests answers old new client
+SessionsStop requests answers old new stops.NoMemory = AreEmptyOrSame answers old.files new.files × KeepsOther old.files answers new.files
+SessionsStop requests answers old new stop = ⊥
+
 abbrev pub ClientsStop : RehearseJob → Seen → Seen → Stop → Type 0
-ClientsStop job old new (stops.ReadFault client files.Requests) = RequestsShut (requests_of job) old new (opens.Failed client)
-ClientsStop job old new (stops.WriteFault client files.Answers) = AnswersFailed job old new client
-ClientsStop job old new stops.NoMemory = AreEmptyOrSame (answers_of job) old.files new.files × KeepsOther old.files (answers_of job) new.files
-ClientsStop job old new stop = ⊥
+ClientsStop job old new stop = SessionsStop (requests_of job) (answers_of job) old new stop
 
 -- Why a call stopped before its sessions, and what the files are then. The first step that failed decides: a client's files are opened only after the tables and the schedule were read and spelled their input, and until then no file changes.
 abbrev pub StopCause : RehearseJob → Seen → Seen → Stop → Type 0

@@ -80,12 +80,7 @@ fn end_with<K: Sink>(summary: &Summary, out: &mut K) -> u8
 }
 
 /// Writes the log and the summary of a call that came past its sessions, and answers the status.
-pub(crate) fn finish<K: Sink>(
-    alloc: Global,
-    clients: u32,
-    done: SessionsDone,
-    out: &mut K,
-) -> u8
+pub(crate) fn finish<K: Sink>(alloc: Global, clients: u32, done: SessionsDone, out: &mut K) -> u8
     requires image { HasLog Image done.words.words }
     ensures printed { ForEachLog Image done.words.words (λ d b log. Printed (K.held out.old) (K.held out.new) (K.faults out.old) (K.faults out.new)
         (whole_text d b log clients done.faults.items done.lines done.refused) (status_for done.faults.items) result) }
