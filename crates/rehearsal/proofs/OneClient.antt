@@ -16,7 +16,7 @@ use Rattle.pcg_words.specs.Job.{answer_file, request_file}
 use Rattle.client_answers.specs.Written.{FaultsSo, HasTexts, texts}
 use Rattle.stream_lines.specs.Streams.{EndsIn, EndsTold}
 use Rattle.job_files.specs.Seen.{ReadBroke, Seen, WriteBroke}
-use Rattle.job_files.specs.Clients.{AnswersOpen, Empties, emptied}
+use Rattle.job_files.specs.Clients.{Empties, emptied}
 use Rattle.job_files.specs.Kept.{AreKeptIn, AreKeptOut, IsAt, IsKeptIn, IsKeptOut}
 use Rattle.session_results.specs.Results.{IsSession, SessionResult, Streams}
 use Rattle.rehearsal.specs.Clients.{AreTexts, HasAnswers, IsClient, LinesAre, ReadsSo, TakenAt, WritesSo, broke}
@@ -97,9 +97,16 @@ pub unfailed : (last : Option Reply) (f : ℕ) → FaultsSo 0 f (is_some last) �
 unfailed None f h e = h
 unfailed (Some r) f h e = cc
 
+-- from the call's start on answers were opened, and no count rose
+pub record IsOpen (answers : List (List ℕ)) (a b : Seen) : Type 0 where
+  pub files : Empties a.files answers b.files
+  pub reads : b.reads ≡ a.reads
+  pub writes : b.writes ≡ a.writes
+  pub counts : (name : List ℕ) → b.counts name ≡ a.counts name
+
 -- the states of a place: answers were opened, requests kept back, and answers kept back
 pub record IsKept (requests answers : List (List ℕ)) (sources sinks : List (Option (List ℕ) × ℕ)) (a b c d : Seen) : Type 0 where
-  pub opened : AnswersOpen answers a b
+  pub opened : IsOpen answers a b
   pub kept_in : AreKeptIn requests sources b c
   pub kept_out : AreKeptOut answers sinks c d
 
