@@ -5,10 +5,12 @@
 //! and the counts are those of the sessions.
 //!
 //! - `playing`: a core is made, played and taken apart
+//! - `starting`: it before its first step
 //! - `counting`: the faults of sessions, and how many replies were written
 #![tactic(auto)]
 
 mod counting;
 mod playing;
+mod starting;
 
 pub use playing::{SessionsDone, SessionsEnd, play_sessions};
