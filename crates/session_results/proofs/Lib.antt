@@ -1,4 +1,5 @@
 pub mod LineFacts
+pub mod StartFacts
 pub mod OneSession
 pub mod AllTold
 pub mod Machines

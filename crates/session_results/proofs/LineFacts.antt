@@ -1,8 +1,8 @@
 -- What the lines of streams ask.
-use Rattle.std.proofs.Common.{◌≡◌, ℕ, suc, ◌≤◌, ◌<◌, Bool, true, false, cond, ltb, List, [], ◌∷◌, length, map, refl, ap, ap₂, subst, ◌∙◌, sym}
+use Rattle.std.proofs.Common.{◌≡◌, ℕ, suc, ◌<◌, cond, List, [], ◌∷◌, length, map, refl, ap, ap₂, subst, ◌∙◌, sym}
 use Rattle.std.proofs.lemmas.Bool.{le-ltb, lt-ltb}
 use Rattle.op_model.specs.declared.request.LineError.TheVariants as error
-use Rattle.op_model.specs.Transcript.{Line, Faulty}
+use Rattle.op_model.specs.Transcript.{Faulty}
 use Rattle.client_events.specs.declared.lines.LineText.{LineText}
 use Rattle.client_events.specs.declared.lines.LineText.TheVariants as text
 use Rattle.client_events.specs.Phases.{line_of}

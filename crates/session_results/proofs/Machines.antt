@@ -1,6 +1,6 @@
 -- The machine behind the sessions.
-use Rattle.std.proofs.Common.{◌≡◌, ℕ, zero, suc, ◌+◌, ◌*◌, ◌^◌, ◌<◌, ◌≤◌, Bool, true, false, List, [], ◌∷◌, length, map, reverse, Option, Some, None, refl, sym, ◌∙◌, ap, subst, arith}
-use Rattle.std.specs.Prelude.{slice_get, slice_set, sum_by}
+use Rattle.std.proofs.Common.{◌≡◌, ℕ, zero, suc, ◌^◌, ◌<◌, Bool, List, [], ◌∷◌, length, map, reverse, Option, Some, None, refl, sym, ◌∙◌, ap, subst, arith}
+use Rattle.std.specs.Prelude.{slice_get, sum_by}
 use Rattle.std.specs.List.{AllByRecursion}
 use Rattle.std.proofs.lemmas.List.{length-map, length-set}
 use Rattle.std.proofs.lemmas.Option.{same_Some}
@@ -14,14 +14,13 @@ use Rattle.record_rows.specs.Readings.{Image}
 use Rattle.stored_log.specs.declared.logs.StoredLog.{StoredLog}
 use Rattle.stored_log.specs.Stored.{Stands}
 use Rattle.stream_lines.specs.declared.reading.StreamLines.{StreamLines}
-use Rattle.client_answers.specs.declared.answers.ClientAnswers.{ClientAnswers}
 use Rattle.client_answers.specs.declared.answers.AllAnswers.{AllAnswers}
 use Rattle.client_answers.specs.Plays.{IsPlay, IsPlayed}
 use Rattle.client_answers.specs.Written.{Answered}
 use Rattle.session_results.specs.declared.playing.SessionsDone.{SessionsDone}
 use Rattle.session_results.specs.Begun.{asked_of, faults_told}
 use Rattle.session_results.specs.Ended.{AreDone, AreLines, Source}
-use Rattle.session_results.proofs.AllTold.{Facts, Sessions, all_told}
+use Rattle.session_results.proofs.AllTold.{Facts, all_told}
 
 module _ (d : Dataset) (b : Base) where
   -- a run keeps all clients

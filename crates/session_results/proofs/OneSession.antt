@@ -1,5 +1,5 @@
 -- What one client's session came to.
-use Rattle.std.proofs.Common.{◌≡◌, ℕ, suc, ◌+◌, ◌-◌, ◌^◌, ◌<◌, ◌≤◌, min, Bool, true, false, List, [], ◌∷◌, ◌++◌, length, map, reverse, count_by, is_some, option_to_list, Option, Some, None, refl, sym, ◌∙◌, ap, subst, arith, length-append}
+use Rattle.std.proofs.Common.{◌≡◌, ℕ, ◌+◌, ◌^◌, ◌<◌, ◌≤◌, false, List, [], ◌∷◌, ◌++◌, length, map, reverse, count_by, is_some, option_to_list, Option, None, sym, ◌∙◌, ap, subst, arith, length-append}
 use Rattle.std.proofs.lemmas.List.{append-nil, length-map, length-reverse}
 use Rattle.std.proofs.lemmas.List.Sums.{count_by-le-length}
 use Rattle.op_model.specs.declared.base.Dataset.{Dataset}
