@@ -1,10 +1,11 @@
 -- A core before its first step.
-use Rattle.std.proofs.Common.{◌≡◌, ℕ, ◌^◌, ◌<◌, ◌≤◌, List, [], ◌∷◌, length, map, sym, ◌∙◌, subst, arith}
+use Rattle.std.proofs.Common.{◌≡◌, ℕ, ◌^◌, ◌<◌, ◌≤◌, List, [], ◌∷◌, length, map, sym, ◌∙◌, ap, subst, arith}
 use Rattle.std.specs.List.{AllByRecursion}
 use Rattle.std.proofs.lemmas.List.{length-map}
 use Rattle.op_model.specs.declared.base.Dataset.{Dataset}
 use Rattle.op_model.specs.declared.base.Base.{Base}
 use Rattle.session_machine.specs.Machine as machine
+use Rattle.pcg_base.specs.declared.reading.StreamEnd.{StreamEnd}
 use Rattle.core_steps.specs.declared.cores.Core.{Core}
 use Rattle.core_steps.specs.declared.starting.ClientLines.{ClientLines}
 use Rattle.core_steps.specs.Starts.{lines_of}
@@ -36,3 +37,6 @@ starts d b at core read lines e is =
 -- it has as many clients as there are streams
 pub core_count : (d : Dataset) (b : Base) (at : ℕ) (core : Core StoredLog) (read : List StreamLines) → IsAt d b core (machine.start d b at (map asked_of read)) → length core.clients.items ≡ length read
 core_count d b at core read is = sym is.1.count ∙ (length-map (map asked_of read) machine.new_client ∙ length-map read asked_of)
+
+pub ends_count : (read : List StreamLines) (ends : List StreamEnd) → ends ≡ map (λ r. r.end) read → length ends ≡ length read
+ends_count read ends e = ap length e ∙ length-map read (λ r. r.end)

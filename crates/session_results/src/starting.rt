@@ -119,7 +119,8 @@ fn make_core(
         → IsAt dataset b core (start dataset b at (map asked_of read.items))) }
 {
     let lines = all_lines(alloc, read)?;
-    start(alloc, words, dataset, lines, clock)
+    let core = start(alloc, words, dataset, lines, clock)?;
+    Ok(core)
 }
 
 /// A core over the lines of all clients, with how their streams ended.
