@@ -28,10 +28,6 @@ asked_of r = (map (line_of asked_line) r.lines.items, is_faulty r.end)
 abbrev pub IsAt : Dataset → Base → Core StoredLog → machine.State → Type 0
 IsAt d b core w = IsGood d b w × CoreIs asked_line (Stands core.rows) (Drafts core.rows) d b core.table core.clients.items w
 
--- the core is at the start of clients that ask this
-abbrev pub IsStarted : Dataset → Core StoredLog → List (List Line × Bool) → Type 0
-IsStarted d core clients = (b : Base) × (at : ℕ) × IsAt d b core (machine.start d b at clients)
-
 -- the faults of clients, of the one of this number and those behind it, by whether the writing of a reply failed and how the stream ended
 unfoldable pub faults_told : {K : Type 0} → ℕ → List (ClientAnswers K) → List StreamEnd → List ClientFault
 faults_told client (x ∷ xs) (e ∷ es) = fault_at client (fault_for x.failed e) ++ faults_told (client + 1) xs es

@@ -1,7 +1,6 @@
 //! The faults of sessions, and how many replies were written.
 
 ghost use Rattle.std.specs.Prelude.{◌≡◌, ◌≤◌, ◌+◌, ◌++◌, ℕ, [], length, sum_by, vec_capacity};
-ghost use Rattle.call_lines.specs.declared.summary.ClientFault.{ClientFault as FaultValue};
 ghost use Rattle.session_results.specs.Begun.{faults_told};
 ghost use Rattle.session_results.specs.Results.{fault_at, fault_for};
 

@@ -1,4 +1,4 @@
-//! A core is made, played and taken apart.
+//! A core is played and taken apart.
 
 ghost use Rattle.std.specs.Prelude.{◌≡◌, ◌≤◌, ◌<◌, ◌*◌, ◌+◌, ◌^◌, ℕ, List, [], length, sum_by, vec_capacity, IfNone, IfSome};
 ghost use Rattle.std.specs.List.{AllByRecursion};
