@@ -6,3 +6,4 @@ pub mod Apart
 pub mod Left
 pub mod Emptied
 pub mod Unplayed
+pub mod Whole

@@ -3,6 +3,7 @@ use Rattle.std.specs.Prelude.{◌≡◌, ℕ, List, [], ◌∷◌, length, map, 
 use Rattle.op_model.specs.declared.base.Dataset.{Dataset}
 use Rattle.op_model.specs.declared.base.Base.{Base}
 use Rattle.pcg_base.specs.declared.clock.Ticks.{Ticks}
+use Rattle.pcg_base.specs.Told.{KeepsFiles}
 use Rattle.client_answers.specs.declared.answers.ClientAnswers.{ClientAnswers}
 use Rattle.stream_lines.specs.declared.reading.StreamLines.{StreamLines}
 use Rattle.job_files.specs.Seen.{EachStep, KeepsIn, KeepsOut, Seen}
@@ -38,3 +39,10 @@ pub record AreUnplayed {K : Type 0} (held : K → Option (List ℕ)) (faults : K
   pub mid : Seen
   pub kept_in : EachStep KeepsIn requests kept old mid
   pub kept_out : EachStep KeepsOut answers (map (kept_of held faults) sinks) mid new
+
+-- between these states of a place files were read and kept back, and no count rose
+pub record IsBefore (old new : Seen) : Type 0 where
+  pub files : KeepsFiles old.files new.files
+  pub reads : new.reads ≡ old.reads
+  pub writes : new.writes ≡ old.writes
+  pub counts : (name : List ℕ) → new.counts name ≡ old.counts name

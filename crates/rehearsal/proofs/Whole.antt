@@ -1,0 +1,93 @@
+-- Files that are opened, sessions that are played, and files that are kept back, together.
+use Rattle.std.proofs.Common.{◌≡◌, ◌≤◌, ◌<◌, ℕ, List, [], ◌∷◌, map, length, Option, Some, None, IsTrue, bytes_eq, false, refl, sym, ◌∙◌, ap, subst, arith}
+use Rattle.std.specs.List.{list_any}
+use Rattle.op_model.specs.declared.base.Dataset.{Dataset}
+use Rattle.op_model.specs.declared.base.Base.{Base}
+use Rattle.pcg_base.specs.declared.clock.Ticks.{Ticks}
+use Rattle.pcg_base.specs.Told.{Files, KeepsFiles}
+use Rattle.pcg_words.specs.Job.{all_differ, answer_file, request_file}
+use Rattle.client_answers.specs.declared.answers.ClientAnswers.{ClientAnswers}
+use Rattle.job_files.specs.Seen.{EachStep, IsLater, KeepsIn, KeepsOut, Seen}
+use Rattle.job_files.specs.Clients.{AnswersOpen, AreEmpty, AreOpened, Empties, kept_of}
+use Rattle.job_files.specs.Kept.{AreKeptIn, AreKeptOut, KeepsOther}
+use Rattle.job_files.proofs.Counting.{later_then}
+use Rattle.call_lines.specs.declared.stops.Stop.TheVariants as stops
+use Rattle.job_tables.specs.Inputs.{clock_time}
+use Rattle.session_results.specs.declared.playing.SessionsDone.{SessionsDone}
+use Rattle.rehearsal.specs.Outcomes.{SessionsStop}
+use Rattle.rehearsal.specs.Played.{ArePlayed, AreUnplayed, IsBefore}
+use Rattle.rehearsal.specs.Served.{AreServed}
+use Rattle.rehearsal.proofs.Emptied.{empties_behind, empties_kept, empty_behind, opened_behind, other_then}
+use Rattle.rehearsal.proofs.Left.{left_elsewhere}
+use Rattle.rehearsal.proofs.OneClient.{IsKept, IsOpen}
+use Rattle.rehearsal.proofs.Serving.{served}
+use Rattle.rehearsal.proofs.Unplayed.{unplayed_stop}
+
+-- the laws of files that are kept back
+abbrev pub SourcesKept : Type 0
+SourcesKept = (names : List (List ℕ)) (sources : List (Option (List ℕ) × ℕ)) (old new : Seen) → IsTrue (all_differ names) → EachStep KeepsIn names sources old new → AreKeptIn names sources old new
+
+abbrev pub SinksKept : Type 0
+SinksKept = (names : List (List ℕ)) (sinks : List (Option (List ℕ) × ℕ)) (old new : Seen) → IsTrue (all_differ names) → EachStep KeepsOut names sinks old new → AreKeptOut names sinks old new
+
+abbrev pub AnswersEmptied : Type 0
+AnswersEmptied = (files files' : Option Files) (names : List (List ℕ)) → Empties files names files' → KeepsOther files names files'
+
+open_from : (answers : List (List ℕ)) (o s t : Seen) → IsBefore o s → AnswersOpen answers s t → IsOpen answers o t
+open_from answers o s t b h = record {
+  files = empties_behind o.files s.files t.files answers b.files h.files;
+  reads = h.reads ∙ b.reads;
+  writes = h.writes ∙ b.writes;
+  counts = λ name. h.counts name ∙ b.counts name;
+}
+
+pub before_same : (s : Seen) → IsBefore s s
+before_same s = record { files = keeps s.files; reads = refl; writes = refl; counts = λ name. refl }
+  where
+    keeps : (f : Option Files) → KeepsFiles f f
+    keeps None = tt
+    keeps (Some m) = refl
+
+module _ (inlaw : SourcesKept) (outlaw : SinksKept) (emptied : AnswersEmptied) (requests answers : List (List ℕ)) (rd : IsTrue (all_differ requests)) (ad : IsTrue (all_differ answers)) where
+  module _ {S K : Type 0} (left : S → Option (List ℕ)) (faults : S → ℕ) (held : K → Option (List ℕ)) (out_faults : K → ℕ) (d : Dataset) (b : Base) (clock : Ticks) (schedule : List ℕ) (stems : List (List ℕ))
+      (sources : List S) (sinks : List (ClientAnswers K)) (o s t v : Seen) (done : SessionsDone) (h : AnswersOpen answers s t) (p : ArePlayed left held out_faults d b (clock_time clock 0) clock schedule requests answers sources sinks t v done) where
+    pub whole_served : IsBefore o s → requests ≡ map request_file stems → answers ≡ map answer_file stems → AreOpened left faults s.files requests sources → AreEmpty held out_faults s.files answers sinks
+        → AreServed d b clock schedule stems o v done
+    whole_served before er ea opened empty =
+        let kept : IsKept requests answers p.kept (map (kept_of held out_faults) p.ended) o t p.mid v = record {
+          opened = open_from answers o s t before h;
+          kept_in = inlaw requests p.kept t p.mid rd p.kept_in;
+          kept_out = outlaw answers (map (kept_of held out_faults) p.ended) p.mid v ad p.kept_out;
+        } in
+        served left faults held out_faults d b p.done_so.log requests answers p.kept (map (kept_of held out_faults) p.ended) o t p.mid v kept stems sources p.read sinks p.ended clock schedule done er ea refl
+        (subst (λ names. AreOpened left faults o.files names sources) er (opened_behind left faults o.files s.files requests sources before.files opened))
+        (subst (λ names. AreEmpty held out_faults o.files names sinks) ea (empty_behind held out_faults o.files s.files answers sinks before.files empty))
+        p.are_read p.count p.done_so refl
+
+    pub played_later : IsLater s t → IsLater s v
+    played_later l =
+        later_then s p.mid v (later_then s t p.mid l (inlaw requests p.kept t p.mid rd p.kept_in).later) (outlaw answers (map (kept_of held out_faults) p.ended) p.mid v ad p.kept_out).later
+
+    pub played_others : KeepsOther s.files answers v.files
+    played_others =
+        let kin = inlaw requests p.kept t p.mid rd p.kept_in in
+        let kout = outlaw answers (map (kept_of held out_faults) p.ended) p.mid v ad p.kept_out in
+        other_then s.files p.mid.files v.files answers (emptied s.files p.mid.files answers (empties_kept s.files t.files p.mid.files answers h.files kin.files)) kout.others
+
+    pub played_left : (n : List ℕ) → list_any (bytes_eq n) requests ≡ false → v.left n ≡ s.left n
+    played_left n e =
+        (outlaw answers (map (kept_of held out_faults) p.ended) p.mid v ad p.kept_out).left n ∙ left_elsewhere requests p.kept t p.mid p.kept_in n e ∙ h.left n
+
+  module _ {K : Type 0} (held : K → Option (List ℕ)) (out_faults : K → ℕ) (sinks : List (ClientAnswers K)) (s t v : Seen) (h : AnswersOpen answers s t) (p : AreUnplayed held out_faults requests answers sinks t v) where
+    pub whole_unplayed : AreEmpty held out_faults s.files answers sinks → SessionsStop requests answers s v stops.NoMemory
+    whole_unplayed empty =
+        unplayed_stop held out_faults requests answers p.kept sinks s t p.mid v (open_from answers s s t (before_same s) h) empty
+        (inlaw requests p.kept t p.mid rd p.kept_in) (outlaw answers (map (kept_of held out_faults) sinks) p.mid v ad p.kept_out) emptied
+
+    pub unplayed_later : IsLater s t → IsLater s v
+    unplayed_later l =
+        later_then s p.mid v (later_then s t p.mid l (inlaw requests p.kept t p.mid rd p.kept_in).later) (outlaw answers (map (kept_of held out_faults) sinks) p.mid v ad p.kept_out).later
+
+    pub unplayed_left : (n : List ℕ) → list_any (bytes_eq n) requests ≡ false → v.left n ≡ s.left n
+    unplayed_left n e =
+        (outlaw answers (map (kept_of held out_faults) sinks) p.mid v ad p.kept_out).left n ∙ left_elsewhere requests p.kept t p.mid p.kept_in n e ∙ h.left n
