@@ -6,3 +6,5 @@ pub mod Apart
 pub mod Left
 pub mod Emptied
 pub mod Unplayed
+pub mod Exact
+pub mod Dues
