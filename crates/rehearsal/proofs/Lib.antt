@@ -7,3 +7,5 @@ pub mod Left
 pub mod Emptied
 pub mod Unplayed
 pub mod Whole
+pub mod Exact
+pub mod Dues
