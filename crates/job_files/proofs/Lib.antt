@@ -1,0 +1,5 @@
+pub mod Counting
+pub mod Steps
+mod KeptIn
+mod KeptOut
+pub mod Emptying
