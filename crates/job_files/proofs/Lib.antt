@@ -3,3 +3,6 @@ pub mod Steps
 mod KeptIn
 mod KeptOut
 pub mod Emptying
+mod Openings
+mod AnswerOpenings
+mod ReadLines

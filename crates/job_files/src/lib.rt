@@ -16,8 +16,10 @@ mod keeping;
 mod laws;
 mod names;
 mod opening;
+mod reading;
 
 pub use keeping::{keep_answers, keep_requests};
 pub use laws::{answers_are_emptied, sinks_are_kept, sources_are_kept};
 pub use names::{ClientFiles, client_files};
-pub use opening::OpenFault;
+pub use opening::{OpenFault, open_answers, open_requests};
+pub use reading::read_requests;

@@ -20,8 +20,7 @@ loop-client-preserved g c =
     let rest = into_iter_items c.loop-client.client-iterator in
     let left = into_iter_items c.next.new.self in
     let within = kept_within KeepsOut shown names all c.loop-client.yielded rest c.loop-client.at first now c.in-Some.client left i.0 more c.requires.enough in
-    let there = slice_get_read names (length names) c.loop-client.at c.index-names-at.result refl within c.index-names-at.is in
-    (
+    let there = slice_get_read names (length names) c.loop-client.at c.index-names-at.result refl within c.index-names-at.is in (
       kept_next KeepsOut shown names all c.loop-client.yielded rest c.loop-client.at first now new c.in-Some.client left c.index-names-at.result i.0 more there c.keep_answer.ensures.step,
       all_then (λ n. g.P.Place.opened_out c.loop-client.place n ≡ true) (λ n. g.P.Place.opened_out c.keep_answer.new.place n ≡ true) c.keep_answer.ensures.stays_out names i.1,
       λ n o. c.keep_answer.ensures.stays_in n (i.2 n o),

@@ -19,8 +19,7 @@ loop-source-preserved g c =
     let rest = into_iter_items c.loop-source.source-iterator in
     let left = into_iter_items c.next.new.self in
     let within = kept_within KeepsIn shown names all c.loop-source.yielded rest c.loop-source.at first now c.in-Some.source left i.0 more c.requires.enough in
-    let there = slice_get_read names (length names) c.loop-source.at c.index-names-at.result refl within c.index-names-at.is in
-    (
+    let there = slice_get_read names (length names) c.loop-source.at c.index-names-at.result refl within c.index-names-at.is in (
       kept_next KeepsIn shown names all c.loop-source.yielded rest c.loop-source.at first now new c.in-Some.source left c.index-names-at.result i.0 more there c.keep_request.ensures.step,
       all_then (λ n. g.P.Place.opened_in c.loop-source.place n ≡ true) (λ n. g.P.Place.opened_in c.keep_request.new.place n ≡ true) c.keep_request.ensures.stays_in names i.1,
       λ n o. c.keep_request.ensures.stays_out n (i.2 n o),
