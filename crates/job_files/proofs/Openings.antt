@@ -1,9 +1,8 @@
 -- Requests that are opened one by one.
-use Rattle.std.proofs.Common.{◌≡◌, ◌≤◌, ◌<◌, ◌+◌, ◌∙◌, ℕ, zero, suc, pred, Bool, true, false, not, ◌&&◌, List, [], ◌∷◌, ◌++◌, Option, Some, None, bytes_eq, length, take, map, slice_get, option_map, refl, sym, ap, subst, arith, inl, inr}
+use Rattle.std.proofs.Common.{◌≡◌, ◌≤◌, ◌<◌, ◌+◌, ◌∙◌, ℕ, zero, suc, pred, Bool, true, false, not, List, [], ◌∷◌, ◌++◌, Option, Some, None, bytes_eq, length, take, map, slice_get, option_map, refl, sym, ap, subst, arith, inl, inr}
 use Rattle.std.specs.Prelude.{◌≢◌, ◌⊎◌, IsTrue, Result, Ok, Err, OnOk}
 use Rattle.std.specs.List.{AllByRecursion, list_any}
-use Rattle.std.specs.FinMap.{get}
-use Rattle.std.proofs.lemmas.Bool.{and_from, and_parts, or_from, or_parts, not_from_false}
+use Rattle.std.proofs.lemmas.Bool.{and_from, or_from, or_parts, not_from_false}
 use Rattle.std.proofs.lemmas.List.{take_all}
 use Rattle.std.proofs.lemmas.Option.{none-some, same_Some, slice_get_within, slice_get-map}
 use Rattle.pcg_base.specs.Causes.{Rose}
@@ -17,7 +16,7 @@ use Rattle.job_files.specs.Kept.{AreKeptIn}
 use Rattle.job_files.specs.Seen.{EachStep, IsLater, IsLaterAt, IsSame, KeepsIn, ReadRose, Seen, WasOpened}
 use Rattle.job_files.specs.declared.opening.OpenFault.{OpenFault}
 use Rattle.job_files.specs.declared.opening.OpenFault.TheVariants as faults
-use Rattle.job_files.proofs.Counting.{all_then, at_each, files_keep, files_then, later_still, later_then, none_passes, rose_after, rose_before, same_at, same_later, same_still, same_then}
+use Rattle.job_files.proofs.Counting.{all_then, at_each, files_then, later_then, rose_after, rose_before, same_at, same_later, same_still, same_then}
 use Rattle.job_files.proofs.KeptIn.{are_kept_in, first_differs}
 use Rattle.job_files.proofs.Steps.{each_later, in_later, of_source}
 

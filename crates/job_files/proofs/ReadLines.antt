@@ -1,11 +1,12 @@
 -- Streams that are read one by one.
-use Rattle.std.proofs.Common.{◌≡◌, ◌≤◌, ◌<◌, ◌+◌, ◌^◌, ◌∙◌, ℕ, suc, Bool, true, false, ◌&&◌, List, [], ◌∷◌, ◌++◌, Option, Some, None, length, map, slice_get, refl, sym, ap, subst, arith, append_assoc, length-append}
-use Rattle.std.specs.Prelude.{Result, Ok, Err}
+use Rattle.std.proofs.Common.{◌≡◌, ◌≤◌, ◌<◌, ◌+◌, ◌^◌, ◌∙◌, ℕ, suc, Bool, true, false, ◌&&◌, List, [], ◌∷◌, ◌++◌, Option, Some, length, map, slice_get, refl, sym, ap, subst, arith, append_assoc, length-append}
+use Rattle.std.specs.Prelude.{Result, Ok, IfOk}
 use Rattle.std.specs.List.{AllByRecursion}
 use Rattle.std.proofs.KnownBytes.{Consumes-nil}
 use Rattle.std.proofs.lemmas.Bool.{and_parts, false≢true}
 use Rattle.std.proofs.lemmas.List.{length-map, map-append}
 use Rattle.pcg_base.specs.Told.{LosesFront}
+use Rattle.pcg_base.specs.declared.traits.NoMemory.{NoMemory}
 use Rattle.stream_lines.specs.declared.reading.StreamLines.{StreamLines}
 use Rattle.stream_lines.specs.Streams.{HasLines}
 use Rattle.job_files.specs.Clients.{AreBegun, AreRead, ReadsAll, ReadsSome}
@@ -13,9 +14,6 @@ use Rattle.job_files.specs.Lines.{Gets, ReadsEach, ReadsNext}
 use Rattle.job_files.specs.Seen.{EachStep, KeepsIn, Seen}
 use Rattle.job_files.proofs.Openings.{all_more}
 use Rattle.job_files.proofs.Steps.{of_source, step_behind}
-
-Kept : Type 0
-Kept = Option (List ℕ) × ℕ
 
 begun_more : (lefts : List (Option (List ℕ))) (xs : List (Option (List ℕ) × ℕ)) (left : Option (List ℕ)) (x : Option (List ℕ) × ℕ) → AreBegun lefts xs → LosesFront left x.0 → AreBegun (lefts ++ left ∷ []) (xs ++ x ∷ [])
 begun_more [] [] left x h o = (o, tt)
@@ -63,6 +61,15 @@ each_read left names xs whole lines old new r e = (r.0, r.3 e, r.2)
 pub each_count : {S : Type 0} (left : S → Option (List ℕ)) (names : List (List ℕ)) (xs : List S) (whole : Bool) (lines : List StreamLines) (old new : Seen) → ReadsEach left names xs whole lines old new → whole ≡ true
     → length xs ≡ length names → length lines ≡ length names
 each_count left names xs whole lines old new r e enough = read_count (map left xs) r.0 lines (r.3 e) ∙ length-map xs left ∙ enough
+
+-- one stream was read
+pub reads_one : {S : Type 0} (left : S → Option (List ℕ)) (faults : S → ℕ) (name : List ℕ) (source back : S) (result : Result StreamLines NoMemory) (r : StreamLines) (lines lines' : List StreamLines) (old new : Seen)
+    → result ≡ Ok r → IfOk result (λ x. HasLines (left source) (left back) (faults source) (faults back) x.lines.items x.end) → IfOk result (λ x. length x.lines.items < 2 ^ 32) → LosesFront (left source) (left back)
+    → faults source ≡ 0 → KeepsIn name (of_source left faults back) old new → lines' ≡ lines ++ r ∷ [] → ReadsNext left name source true lines lines' old new
+reads_one left faults name source back result r lines lines' old new is has few front fresh step put =
+    let P : Result StreamLines NoMemory → Type 0 = λ x. IfOk x (λ y. HasLines (left source) (left back) (faults source) (faults back) y.lines.items y.end) in
+    let Q : Result StreamLines NoMemory → Type 0 = λ x. IfOk x (λ y. length y.lines.items < 2 ^ 32) in
+    (of_source left faults back, front, step, (r, put, subst (λ n. HasLines (left source) (left back) n (faults back) r.lines.items r.end) fresh (subst P is has), subst Q is few))
 
 -- the first streams were read
 pub record ReadSoFar {S : Type 0} (left : S → Option (List ℕ)) (names : List (List ℕ)) (all done rest : List S) (at : ℕ) (whole : Bool) (lines : List StreamLines) (first now : Seen) : Type 0 where

@@ -1,11 +1,8 @@
 -- One step of keeping back behind others.
-use Rattle.std.proofs.Common.{◌≡◌, ◌≤◌, ◌<◌, ◌+◌, ◌∙◌, ℕ, List, [], ◌∷◌, ◌++◌, Option, Some, None, length, map, slice_get, refl, sym, ap, subst, arith, append_assoc, length-append}
-use Rattle.std.specs.Prelude.{◌≢◌}
-use Rattle.std.specs.List.{AllByRecursion}
+use Rattle.std.proofs.Common.{◌≡◌, ◌≤◌, ◌<◌, ◌+◌, ◌∙◌, ℕ, List, [], ◌∷◌, ◌++◌, Option, Some, length, map, slice_get, refl, sym, ap, subst, arith, append_assoc, length-append}
 use Rattle.std.proofs.lemmas.List.{map-append, length-map}
 use Rattle.std.proofs.lemmas.Option.{none-some, same_Some}
-use Rattle.pcg_base.specs.Causes.{added}
-use Rattle.pcg_base.specs.Told.{Counts, KeepsFiles, PutsHeld, TellsTo}
+use Rattle.pcg_base.specs.Told.{Counts}
 use Rattle.job_files.specs.Seen.{EachStep, IsLater, IsLaterAt, KeepsIn, KeepsOut, Seen}
 use Rattle.job_files.proofs.Counting.{at_each, later_still, later_then, same_at}
 

@@ -1,4 +1,4 @@
-use Rattle.std.proofs.Common.{◌≡◌, ◌<◌, ℕ, List, length, true, refl}
+use Rattle.std.proofs.Common.{◌≡◌, length, true, refl}
 use Rattle.std.specs.Vec.Iter.{into_iter_items}
 use Rattle.std.proofs.lemmas.Option.{slice_get_read}
 use Rattle.job_files.specs.Seen.{KeepsIn, seen}

@@ -1,8 +1,7 @@
-use Rattle.std.proofs.Common.{◌≡◌, ◌<◌, ◌≤◌, ◌+◌, true, length, vec_capacity, take, refl, ap, arith, rules, subst}
+use Rattle.std.proofs.Common.{◌≡◌, ◌<◌, ◌+◌, true, length, refl, ap, arith, rules, subst}
 use Rattle.std.specs.List.{AllByRecursion}
 use Rattle.std.proofs.lemmas.Option.{slice_get_read}
 use Rattle.pcg_base.specs.declared.place.PlaceError.{PlaceError}
-use Rattle.pcg_base.specs.declared.place.PlaceError.TheVariants as errors
 use Rattle.std.specs.Prelude.{Err}
 use Rattle.job_files.specs.Clients.{AreOpened}
 use Rattle.job_files.specs.Seen.{seen}
