@@ -8,7 +8,7 @@ use Rattle.stream_lines.specs.declared.reading.StreamLines.{StreamLines}
 use Rattle.stream_lines.specs.Streams.{HasLines}
 use Rattle.job_files.specs.declared.opening.OpenFault.{OpenFault}
 use Rattle.job_files.specs.declared.opening.OpenFault.TheVariants as faults
-use Rattle.job_files.specs.Seen.{EachStep, KeepsIn, KeepsOut, IsSame, ReadRose, Seen, WasOpened, WriteRose}
+use Rattle.job_files.specs.Seen.{EachStep, KeepsIn, ReadRose, Seen, WasOpened, WriteRose}
 
 -- each source has the bytes at its name left, where they are told, and never failed
 abbrev pub AreOpened : {S : Type 0} → (S → Option (List ℕ)) → (S → ℕ) → Option Files → List (List ℕ) → List S → Type 0

@@ -1,3 +1,5 @@
 pub mod Clients
+pub mod Fronts
 pub mod Kept
+pub mod Lines
 pub mod Seen

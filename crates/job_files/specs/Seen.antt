@@ -1,6 +1,6 @@
 -- A place as clauses see it, and what calls do to it.
 use Rattle.std.specs.Prelude.{◌≡◌, ◌≢◌, ◌≤◌, ◌⊎◌, ⊤, ℕ, List, [], ◌∷◌, ◌++◌, Option, Some, None}
-use Rattle.std.specs.FinMap.{get, insert}
+use Rattle.std.specs.FinMap.{get}
 use Rattle.pcg_base.specs.Causes.{Rose, added}
 use Rattle.pcg_base.specs.Told.{Counts, Files, KeepsFiles, PutsHeld, TellsTo}
 

@@ -1,5 +1,19 @@
 //! Requests and answers are opened.
 
+ghost use Rattle.std.specs.Prelude.{◌≡◌, ◌≤◌, ◌<◌, ◌+◌, ◌-◌, ◌^◌, ◌++◌, ◌∷◌, ℕ, List, [], length, true, vec_capacity, vec_len, IfErr, IfOk, IsErrOf, IsTrue, OnErr, OnOk};
+ghost use Rattle.std.specs.List.{AllByRecursion};
+ghost use Rattle.pcg_base.specs.Told.{KeepsFiles};
+ghost use Rattle.pcg_words.specs.Job.{all_differ};
+ghost use Rattle.job_files.specs.Clients.{AnswersOpen, AnswersShut, AreEmpty, AreOpened, RequestsShut};
+ghost use Rattle.job_files.specs.Fronts.{EmptiesFront, IsEmptied, IsOpened, OpensFront, fault_of};
+ghost use Rattle.job_files.specs.Seen.{IsLater, IsSame, ReadRose, WriteRose, seen};
+
+use crate::keeping::{keep_answers, keep_requests};
+use client_answers::ClientAnswers;
+use pcg_base::{Place, PlaceError};
+use pcg_words::Name;
+use std::alloc::Global;
+
 /// Why files weren't opened.
 #[derive(Clone, Copy, Debug, PartialEq, Eq)]
 pub enum OpenFault {
@@ -12,27 +26,183 @@ pub enum OpenFault {
     NoMemory,
 }
 
+/// Why a file of this client wasn't opened.
+fn fault_of(error: PlaceError, client: u32) -> OpenFault
+    ensures { result ≡ fault_of error client }
+{
+    match error {
+        PlaceError::Failed => OpenFault::Failed { client },
+        PlaceError::NoMemory => OpenFault::NoMemory,
+    }
+}
+
+/// Puts an item behind others, where there is room.
+pub(crate) fn put<T: Drop>(list: &mut Vec<T>, item: T)
+    requires room { vec_len list.old < vec_capacity list.old }
+    ensures items { list.new.items ≡ list.old.items ++ item ∷ [] }
+    ensures capacity { vec_capacity list.old ≤ vec_capacity list.new }
+{
+    let put = list.push(item);
+    prove!(put.is_ok());
+}
+
+/// Opens the requests at a name.
+fn open_request<P: Place>(place: &mut P, name: &Name) -> Result<P::In, PlaceError>
+    ensures ok { IfOk result (λ source. IsOpened P.In.left P.In.faults (P.files place.old) name.now source) }
+    ensures same { OnOk result (IsSame (seen P.files P.left_at P.read_faults P.write_faults P.counts place.old) (seen P.files P.left_at P.read_faults P.write_faults P.counts place.new)) }
+    ensures ready { OnOk result (P.opened_in place.new name.now ≡ true) }
+    ensures failed { IsErrOf result PlaceError.Failed → ReadRose (seen P.files P.left_at P.read_faults P.write_faults P.counts place.old) (seen P.files P.left_at P.read_faults P.write_faults P.counts place.new) name.now }
+    ensures files { KeepsFiles (P.files place.old) (P.files place.new) }
+    ensures writes { P.write_faults place.new ≡ P.write_faults place.old }
+    ensures later { IsLater (seen P.files P.left_at P.read_faults P.write_faults P.counts place.old) (seen P.files P.left_at P.read_faults P.write_faults P.counts place.new) }
+    ensures stays { (n : List ℕ) → P.opened_in place.old n ≡ true → P.opened_in place.new n ≡ true }
+{
+    place.source_of(name.text.as_str())
+}
+
+/// Opens requests in order, up to the first that can't be opened, into a list with room for them.
+fn open_each_request<P: Place>(
+    place: &mut P,
+    names: &[Name],
+    sources: &mut Vec<P::In>,
+) -> Result<(), OpenFault>
+where
+    P::In: Drop,
+    requires room { length names.now ≤ vec_capacity sources.old }
+    requires none { sources.old.items ≡ [] }
+    requires few { length names.now < 2 ^ 32 - 1 }
+    ensures ok { OnOk result (AreOpened P.In.left P.In.faults (P.files place.old) names.now sources.new.items) }
+    ensures same { OnOk result (IsSame (seen P.files P.left_at P.read_faults P.write_faults P.counts place.old) (seen P.files P.left_at P.read_faults P.write_faults P.counts place.new)) }
+    ensures ready { OnOk result (AllByRecursion (λ n. P.opened_in place.new n ≡ true) names.now) }
+    ensures front { IfErr result (OpensFront P.In.left P.In.faults (P.opened_in place.new) names.now sources.new.items (seen P.files P.left_at P.read_faults P.write_faults P.counts place.old) (seen P.files P.left_at P.read_faults P.write_faults P.counts place.new)) }
+{
+    for at in 0..names.len() {
+        let source = match open_request(place, &names[at]) {
+            Ok(source) => source,
+            Err(error) => return Err(fault_of(error, at as u32 + 1)),
+        };
+        put(sources, source);
+    }
+    Ok(())
+}
+
 /// Opens all requests, in order. Where one can't be opened those before it are kept back.
 ///
 /// # Errors
 ///
 /// `Failed` with the first client whose requests can't be opened, and `NoMemory`.
-pub fn open_requests<P: Place>(alloc: Global, place: &mut P, names: &[Name]) -> Result<Vec<P::In>, OpenFault>
+pub fn open_requests<P: Place>(
+    alloc: Global,
+    place: &mut P,
+    names: &[Name],
+) -> Result<Vec<P::In>, OpenFault>
+where
+    P::In: Drop,
     requires differ { IsTrue (all_differ names.now) }
     requires few { length names.now < 2 ^ 32 - 1 }
     ensures ok { IfOk result (λ sources. AreOpened P.In.left P.In.faults (P.files place.old) names.now sources.items) }
     ensures same { OnOk result (IsSame (seen P.files P.left_at P.read_faults P.write_faults P.counts place.old) (seen P.files P.left_at P.read_faults P.write_faults P.counts place.new)) }
     ensures opened { OnOk result (AllByRecursion (λ n. P.opened_in place.new n ≡ true) names.now) }
     ensures shut { IfErr result (RequestsShut names.now (seen P.files P.left_at P.read_faults P.write_faults P.counts place.old) (seen P.files P.left_at P.read_faults P.write_faults P.counts place.new)) }
-    ensures later { IsLater (seen .. place.old) (seen .. place.new) }
+    ensures later { IsLater (seen P.files P.left_at P.read_faults P.write_faults P.counts place.old) (seen P.files P.left_at P.read_faults P.write_faults P.counts place.new) }
+{
+    let Ok(mut sources) = Vec::with_capacity(alloc, names.len()) else {
+        return Err(OpenFault::NoMemory);
+    };
+    match open_each_request(place, names, &mut sources) {
+        Ok(()) => Ok(sources),
+        Err(fault) => {
+            let (front, _) = names.split_at(sources.len());
+            keep_requests(place, front, sources);
+            Err(fault)
+        }
+    }
+}
 
-/// Opens all answers, in order, which empties their files. Where one can't be opened those before it are kept back.
-pub fn open_answers<P: Place>(alloc: Global, place: &mut P, names: &[Name]) -> Result<Vec<ClientAnswers<P::Out>>, OpenFault>
-    where P::Out: Drop (if needed)
+/// Opens the answers at a name, which empties them.
+fn open_answer<P: Place>(place: &mut P, name: &Name) -> Result<ClientAnswers<P::Out>, PlaceError>
+where
+    P::Out: Drop,
+    ensures ok { IfOk result (λ answers. IsEmptied P.Out.held P.Out.faults (P.files place.old) answers) }
+    ensures empties { OnOk result (AnswersOpen (name.now ∷ []) (seen P.files P.left_at P.read_faults P.write_faults P.counts place.old) (seen P.files P.left_at P.read_faults P.write_faults P.counts place.new)) }
+    ensures ready { OnOk result (P.opened_out place.new name.now ≡ true) }
+    ensures failed { IsErrOf result PlaceError.Failed → WriteRose (seen P.files P.left_at P.read_faults P.write_faults P.counts place.old) (seen P.files P.left_at P.read_faults P.write_faults P.counts place.new) name.now }
+    ensures unmade { OnErr result (KeepsFiles (P.files place.old) (P.files place.new)) }
+    ensures reads { P.read_faults place.new ≡ P.read_faults place.old }
+    ensures left { (n : List ℕ) → P.left_at place.new n ≡ P.left_at place.old n }
+    ensures later { IsLater (seen P.files P.left_at P.read_faults P.write_faults P.counts place.old) (seen P.files P.left_at P.read_faults P.write_faults P.counts place.new) }
+    ensures stays_in { (n : List ℕ) → P.opened_in place.old n ≡ true → P.opened_in place.new n ≡ true }
+    ensures stays_out { (n : List ℕ) → P.opened_out place.old n ≡ true → P.opened_out place.new n ≡ true }
+{
+    let sink = match place.sink_of(name.text.as_str()) {
+        Ok(sink) => sink,
+        Err(error) => return Err(error),
+    };
+    Ok(ClientAnswers {
+        sink,
+        lines: 0,
+        refused: 0,
+        failed: false,
+    })
+}
+
+/// Opens answers in order, up to the first that can't be opened, into a list with room for them.
+fn open_each_answer<P: Place>(
+    place: &mut P,
+    names: &[Name],
+    answers: &mut Vec<ClientAnswers<P::Out>>,
+) -> Result<(), OpenFault>
+where
+    P::Out: Drop,
+    requires room { length names.now ≤ vec_capacity answers.old }
+    requires none { answers.old.items ≡ [] }
+    requires few { length names.now < 2 ^ 32 - 1 }
+    ensures ok { OnOk result (AreEmpty P.Out.held P.Out.faults (P.files place.old) names.now answers.new.items) }
+    ensures empties { OnOk result (AnswersOpen names.now (seen P.files P.left_at P.read_faults P.write_faults P.counts place.old) (seen P.files P.left_at P.read_faults P.write_faults P.counts place.new)) }
+    ensures ready { OnOk result (AllByRecursion (λ n. P.opened_out place.new n ≡ true) names.now) }
+    ensures front { IfErr result (EmptiesFront P.Out.held P.Out.faults (P.opened_out place.new) names.now answers.new.items (seen P.files P.left_at P.read_faults P.write_faults P.counts place.old) (seen P.files P.left_at P.read_faults P.write_faults P.counts place.new)) }
+    ensures stays { (n : List ℕ) → P.opened_in place.old n ≡ true → P.opened_in place.new n ≡ true }
+{
+    for at in 0..names.len() {
+        let client = match open_answer(place, &names[at]) {
+            Ok(client) => client,
+            Err(error) => return Err(fault_of(error, at as u32 + 1)),
+        };
+        put(answers, client);
+    }
+    Ok(())
+}
+
+/// Opens all answers, in order, which empties their files. Where one can't be opened those before it
+/// are kept back, still empty.
+///
+/// # Errors
+///
+/// `Failed` with the first client whose answers can't be opened, and `NoMemory`.
+pub fn open_answers<P: Place>(
+    alloc: Global,
+    place: &mut P,
+    names: &[Name],
+) -> Result<Vec<ClientAnswers<P::Out>>, OpenFault>
+where
+    P::Out: Drop,
     requires few { length names.now < 2 ^ 32 - 1 }
     ensures ok { IfOk result (λ answers. AreEmpty P.Out.held P.Out.faults (P.files place.old) names.now answers.items) }
-    ensures open { OnOk result (AnswersOpen names.now (seen .. place.old) (seen .. place.new)) }
+    ensures open { OnOk result (AnswersOpen names.now (seen P.files P.left_at P.read_faults P.write_faults P.counts place.old) (seen P.files P.left_at P.read_faults P.write_faults P.counts place.new)) }
     ensures opened { OnOk result (AllByRecursion (λ n. P.opened_out place.new n ≡ true) names.now) }
     ensures stays { (n : List ℕ) → P.opened_in place.old n ≡ true → P.opened_in place.new n ≡ true }
-    ensures shut { IfErr result (AnswersShut names.now (seen .. place.old) (seen .. place.new)) }
-    ensures later { IsLater .. }
+    ensures shut { IfErr result (AnswersShut names.now (seen P.files P.left_at P.read_faults P.write_faults P.counts place.old) (seen P.files P.left_at P.read_faults P.write_faults P.counts place.new)) }
+    ensures later { IsLater (seen P.files P.left_at P.read_faults P.write_faults P.counts place.old) (seen P.files P.left_at P.read_faults P.write_faults P.counts place.new) }
+{
+    let Ok(mut answers) = Vec::with_capacity(alloc, names.len()) else {
+        return Err(OpenFault::NoMemory);
+    };
+    match open_each_answer(place, names, &mut answers) {
+        Ok(()) => Ok(answers),
+        Err(fault) => {
+            let (front, _) = names.split_at(answers.len());
+            keep_answers(place, front, answers);
+            Err(fault)
+        }
+    }
+}

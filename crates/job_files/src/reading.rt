@@ -1,18 +1,107 @@
 //! The lines of all requests.
 
+ghost use Rattle.std.specs.Prelude.{◌≡◌, ◌≤◌, ◌<◌, ◌^◌, ℕ, List, [], length, true, vec_capacity, vec_len, IfOk, OnErr};
+ghost use Rattle.std.specs.List.{AllByRecursion};
+ghost use Rattle.job_files.specs.Clients.{ReadsAll, ReadsSome};
+ghost use Rattle.job_files.specs.Lines.{ReadsEach, ReadsNext};
+ghost use Rattle.job_files.specs.Seen.{seen};
+
+use crate::keeping::{keep_request, keep_requests};
+use crate::opening::put;
+use pcg_base::{NoMemory, Place};
+use pcg_words::Name;
+use std::alloc::Global;
+use stream_lines::{SourceRead, StreamLines, read_source};
+
+/// Reads a stream, keeps its source back, and puts its lines behind others, where there is room.
+/// Answers whether there was memory for them.
+fn read_next<P: Place>(
+    alloc: Global,
+    place: &mut P,
+    name: &Name,
+    source: P::In,
+    read: &mut Vec<StreamLines>,
+) -> bool
+where
+    P::In: Drop,
+    requires room { vec_len read.old < vec_capacity read.old }
+    requires fresh { P.In.faults source ≡ 0 }
+    requires opened { P.opened_in place.old name.now ≡ true }
+    ensures reads { ReadsNext P.In.left name.now source result read.old.items read.new.items (seen P.files P.left_at P.read_faults P.write_faults P.counts place.old) (seen P.files P.left_at P.read_faults P.write_faults P.counts place.new) }
+    ensures capacity { vec_capacity read.old ≤ vec_capacity read.new }
+    ensures stays_in { (n : List ℕ) → P.opened_in place.old n ≡ true → P.opened_in place.new n ≡ true }
+    ensures stays_out { (n : List ℕ) → P.opened_out place.old n ≡ true → P.opened_out place.new n ≡ true }
+{
+    let SourceRead { source, lines } = read_source(alloc, source);
+    keep_request(place, name, source);
+    match lines {
+        Ok(lines) => {
+            put(read, lines);
+            true
+        }
+        Err(_) => false,
+    }
+}
+
+/// Reads streams in order, keeps their sources back, and puts their lines into an empty list with
+/// room for them. Answers whether there was memory for all.
+fn read_each<P: Place>(
+    alloc: Global,
+    place: &mut P,
+    names: &[Name],
+    sources: Vec<P::In>,
+    read: &mut Vec<StreamLines>,
+) -> bool
+where
+    P::In: Drop,
+    requires each { length sources.items ≡ length names.now }
+    requires room { length names.now ≤ vec_capacity read.old }
+    requires none { read.old.items ≡ [] }
+    requires fresh { AllByRecursion (λ s. P.In.faults s ≡ 0) sources.items }
+    requires opened { AllByRecursion (λ n. P.opened_in place.old n ≡ true) names.now }
+    ensures reads { ReadsEach P.In.left names.now sources.items result read.new.items (seen P.files P.left_at P.read_faults P.write_faults P.counts place.old) (seen P.files P.left_at P.read_faults P.write_faults P.counts place.new) }
+    ensures few { AllByRecursion (λ r. length r.lines.items < 2 ^ 32) read.new.items }
+    ensures stays { (n : List ℕ) → P.opened_out place.old n ≡ true → P.opened_out place.new n ≡ true }
+{
+    let mut whole = true;
+    let mut at = 0;
+    for source in sources {
+        whole &= read_next(alloc, place, &names[at], source, read);
+        at += 1;
+    }
+    whole
+}
+
 /// Reads each stream to its end or its fault, client by client, and keeps its source back. What is
 /// read stops nothing: where memory runs out the streams behind it are kept back too.
 ///
 /// # Errors
 ///
 /// `NoMemory` where there is none for the lines.
-pub fn read_requests<P: Place>(alloc: Global, place: &mut P, names: &[Name], sources: Vec<P::In>) -> Result<Vec<StreamLines>, NoMemory>
-    where P::In: Drop
+pub fn read_requests<P: Place>(
+    alloc: Global,
+    place: &mut P,
+    names: &[Name],
+    sources: Vec<P::In>,
+) -> Result<Vec<StreamLines>, NoMemory>
+where
+    P::In: Drop,
     requires each { length sources.items ≡ length names.now }
     requires fresh { AllByRecursion (λ s. P.In.faults s ≡ 0) sources.items }
     requires opened { AllByRecursion (λ n. P.opened_in place.old n ≡ true) names.now }
-    ensures read { IfOk result (λ read. ReadsAll P.In.left names.now sources.items read.items (seen .. place.old) (seen .. place.new)) }
+    ensures read { IfOk result (λ read. ReadsAll P.In.left names.now sources.items read.items (seen P.files P.left_at P.read_faults P.write_faults P.counts place.old) (seen P.files P.left_at P.read_faults P.write_faults P.counts place.new)) }
     ensures few { IfOk result (λ read. AllByRecursion (λ r. length r.lines.items < 2 ^ 32) read.items) }
     ensures count { IfOk result (λ read. length read.items ≡ length names.now) }
-    ensures begun { OnErr result (ReadsSome P.In.left names.now sources.items (seen .. place.old) (seen .. place.new)) }
+    ensures begun { OnErr result (ReadsSome P.In.left names.now sources.items (seen P.files P.left_at P.read_faults P.write_faults P.counts place.old) (seen P.files P.left_at P.read_faults P.write_faults P.counts place.new)) }
     ensures stays { (n : List ℕ) → P.opened_out place.old n ≡ true → P.opened_out place.new n ≡ true }
+{
+    let Ok(mut read) = Vec::with_capacity(alloc, names.len()) else {
+        keep_requests(place, names, sources);
+        return Err(NoMemory);
+    };
+    if read_each(alloc, place, names, sources, &mut read) {
+        Ok(read)
+    } else {
+        Err(NoMemory)
+    }
+}

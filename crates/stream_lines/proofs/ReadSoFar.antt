@@ -13,6 +13,7 @@ use Rattle.client_session.specs.Feeds.{Ends, IsNext, IsEnd, IsFault, IsTooLong}
 use Rattle.client_session.specs.Giving.{HasGiven, ended_of, texts as texts_of}
 use Rattle.client_session.specs.Sessions.{NextLine, client_of, given_by, is_over, is_stopped, sink_of, source_of, taken_by, waiting_in}
 use Rattle.pcg_base.specs.Causes.{Rose}
+use Rattle.pcg_base.specs.Told.{LosesFront}
 use Rattle.pcg_base.specs.declared.reading.StreamEnd.{StreamEnd}
 use Rattle.pcg_base.specs.declared.reading.StreamEnd.TheVariants as ends
 use Rattle.stream_lines.specs.Keeping.{HasBytes, IsTaken, Keeps}
@@ -43,6 +44,10 @@ told (Some x) b h = h
 none_behind : (xs ys : List ℕ) → xs ++ ys ≡ [] → ys ≡ []
 none_behind [] ys e = e
 none_behind (x ∷ xs) ys e = cc
+
+-- a front was taken, and then another
+pub front_more : (a b c : Option (List ℕ)) → LosesFront a b → LosesFront b c → LosesFront a c
+front_more a b c h k = (h.0 ++ k.0, Consumes-trans a b c h.0 k.0 h.1 k.1)
 
 -- what holds of the lines that a session gives
 pub record Laws : Type 0 where

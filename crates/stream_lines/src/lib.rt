@@ -2,6 +2,7 @@
 //!
 //! The promise: [`read_lines`] gives each line of a stream once and in order, as its session gives
 //! them, and how the stream ended. A line of more than 65,536 bytes is kept as its length alone.
+//! [`read_source`] does so for a source by itself, and gives it back.
 //!
 //! - `reading`: the lines of a stream
 //! - `taking`: its next line
@@ -10,4 +11,4 @@
 mod reading;
 mod taking;
 
-pub use reading::{StreamLines, read_lines};
+pub use reading::{SourceRead, StreamLines, read_lines, read_source};

@@ -1,0 +1,8 @@
+pub mod Counting
+pub mod Steps
+mod KeptIn
+mod KeptOut
+pub mod Emptying
+mod Openings
+mod AnswerOpenings
+mod ReadLines
