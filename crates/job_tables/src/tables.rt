@@ -28,7 +28,7 @@ pub struct JobBase {
 
 /// Reads the two tables of a job and its schedule, and makes the words of the base. A file may have
 /// up to 2^30 bytes. Time is n log n in the tables' records and the base's nodes, and linear in the
-/// schedule.
+/// schedule's bytes and in the layers times the supervoxels.
 ///
 /// # Errors
 ///
