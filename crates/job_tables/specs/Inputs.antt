@@ -5,7 +5,6 @@ use Rattle.std.specs.FinMap.{get}
 use Rattle.op_model.specs.declared.base.Dataset.{Dataset}
 use Rattle.op_model.specs.declared.base.Base.{Base}
 use Rattle.op_model.specs.Ingest.{ingested}
-use Rattle.op_model.specs.Valid.{IsBase, IsDataset}
 use Rattle.record_rows.specs.Readings.{Image}
 use Rattle.hierarchy_build.specs.declared.errors.BuildError.{BuildError}
 use Rattle.hierarchy_build.specs.Built.{IsFull}
@@ -64,7 +63,7 @@ NamesClients files job None numbers = numbers ≡ []
 NamesClients None job (Some name) numbers = ⊤
 NamesClients (Some m) job (Some name) numbers = (text : List ℕ) × HasText (Some m) name text × (schedule_of (length job.stems) text ≡ Ok numbers)
 
--- the job's schedule does; without one it names none
+-- where the place tells its bytes, the job's schedule names these clients; without a schedule none is named
 abbrev pub HasSchedule : Option Files → RehearseJob → List ℕ → Type 0
 HasSchedule files job numbers = NamesClients files job job.schedule numbers
 
@@ -74,6 +73,7 @@ NamesNone files job None word = ⊥
 NamesNone None job (Some name) word = ⊤
 NamesNone (Some m) job (Some name) word = (text : List ℕ) × HasText (Some m) name text × (schedule_of (length job.stems) text ≡ Err word)
 
+-- where the place tells its bytes, this word of the job's schedule is the first that is no client's number
 abbrev pub HasBadWord : Option Files → RehearseJob → ℕ → Type 0
 HasBadWord files job word = NamesNone files job job.schedule word
 

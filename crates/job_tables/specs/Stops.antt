@@ -34,11 +34,12 @@ abbrev pub TextStop : Option Files → List ℕ → FileName → Seen → Seen �
 TextStop m name file old new stop =
     ((stop ≡ stops.ReadFault 0 file) × ReadRose old new name) ⊎ ((stop ≡ stops.TooLong 0 file) × IsLongerAt m name limit) ⊎ (stop ≡ stops.NoMemory)
 
--- the same of the schedule, if there is one
+-- a count of reading rose beside the schedule's name, if there is one
 abbrev pub ScheduleRose : Seen → Seen → Option (List ℕ) → Type 0
 ScheduleRose old new None = ⊥
 ScheduleRose old new (Some name) = ReadRose old new name
 
+-- where the place tells its bytes, the schedule at this name has more of them than it may have
 abbrev pub ScheduleLong : Option Files → Option (List ℕ) → Type 0
 ScheduleLong m None = ⊥
 ScheduleLong m (Some name) = IsLongerAt m name limit

@@ -1,50 +1,30 @@
-//! What the two tables make: a base, and the log that it begins.
+//! What the texts of a job make: a base's words, and the clients that a schedule names.
 
-ghost use Rattle.std.specs.Prelude.{◌≡◌, ◌<◌, ℕ, IfOk, IfErr};
+ghost use Rattle.std.specs.Prelude.{◌≡◌, ◌≤◌, ◌*◌, ◌+◌, ◌^◌, length, IfOk, IfErr, OnOk, option_map};
 ghost use Rattle.pcg_words.specs.Job.{RehearseRanges};
-ghost use Rattle.op_model.specs.Valid.{IsDataset};
-ghost use Rattle.table_ingest.specs.Bases.{Spells};
+ghost use Rattle.op_model.specs.Valid.{IsBase, IsDataset};
+ghost use Rattle.table_ingest.specs.Bases.{Faulty, Spells};
 ghost use Rattle.record_rows.specs.Readings.{Image};
 ghost use Rattle.op_model.specs.Ingest.{ingested};
 ghost use Rattle.hierarchy_build.specs.declared.errors.BuildError.{BuildError as TheBuildError};
 ghost use Rattle.hierarchy_build.specs.Built.{IsFull};
-ghost use Rattle.pcg_serve.specs.Jobs.{clock_time, dataset_of};
-ghost use Rattle.pcg_serve.specs.Ingests.{AreWords, IfBad, IsIngest, MakesStop, TellsStop};
+ghost use Rattle.job_tables.specs.Inputs.{clock_time, dataset_of};
+ghost use Rattle.job_tables.specs.Made.{IsMade, IsShort, MakesStop, Named, NotNamed, StopsForRecords, StopsForTable, StopsForWord, records_stop, schedule_text, table_stop, word_stop};
 
-use crate::stops::Stop;
+use crate::tables::JobBase;
+use crate::texts::{Tables, Texts};
+use call_lines::Stop;
 use hierarchy_build::{BuildError, build};
 use node_ids::Layout;
-use op_model::{Base, Dataset, Entry};
-use pcg_base::{NoMemory, VecWords, Words};
-use pcg_words::RehearseJob;
+use op_model::{Base, Dataset};
+use pcg_base::{Ticks, VecWords};
+use pcg_words::{Names, RehearseJob};
+use schedules::{ScheduleError, read_schedule};
 use std::alloc::Global;
 use table_ingest::{TableError, read_base};
-use timestamp_reader::entry;
-
-/// A base, and the log that it begins.
-#[derive(Drop)]
-pub struct Ingest {
-    /// What is fixed for the log.
-    pub dataset: Dataset,
-    /// The supervoxels and edges.
-    pub base: Base,
-    /// The entry of the ingest.
-    pub entry: Entry,
-    /// How many records the log takes.
-    pub records: u64,
-}
-
-/// A base with its log, and the words that the log is read from.
-#[derive(Drop)]
-pub struct Begun {
-    /// The base, and the log that it begins.
-    pub ingest: Ingest,
-    /// The log's words, with room for all records of the capacity.
-    pub words: VecWords,
-}
 
 /// The dataset of a job.
-#[tactic(auto, unfolding(crate::specs::Jobs::dataset_of))]
+#[tactic(auto, unfolding(crate::specs::Inputs::dataset_of))]
 fn dataset_of(job: &RehearseJob) -> Dataset
     requires { RehearseRanges job.now }
     ensures is { result ≡ dataset_of job.now }
@@ -59,10 +39,17 @@ fn dataset_of(job: &RehearseJob) -> Dataset
     }
 }
 
+/// How many clients have these stems.
+fn count_of(stems: &Names) -> u32
+    requires { length stems.now ≤ 64 }
+    ensures { result ≡ length stems.now }
+{
+    stems.list.len() as u32
+}
+
 /// Why two tables gave no base.
-fn stop_of(error: TableError) -> Stop
-    ensures bad { IfBad error (λ table row cause. result ≡ Stop.BadTable table row cause) }
-    ensures memory { error ≡ TableError.NoMemory → result ≡ Stop.NoMemory }
+fn table_stop(error: TableError) -> Stop
+    ensures { result ≡ table_stop error }
 {
     match error {
         TableError::Bad { table, row, cause } => Stop::BadTable { table, row, cause },
@@ -70,9 +57,19 @@ fn stop_of(error: TableError) -> Stop
     }
 }
 
+/// Why a text is no schedule.
+fn word_stop(error: ScheduleError) -> Stop
+    ensures { result ≡ word_stop error }
+{
+    match error {
+        ScheduleError::Bad { word } => Stop::BadSchedule { word },
+        ScheduleError::NoMemory => Stop::NoMemory,
+    }
+}
+
 /// Why a base's records aren't there.
-fn full_of(error: BuildError) -> Stop
-    ensures { TellsStop error result }
+fn records_stop(error: BuildError) -> Stop
+    ensures { result ≡ records_stop error }
 {
     match error {
         BuildError::IdsSpent { layer, x, y, z } => Stop::IdsSpent { layer, x, y, z },
@@ -81,61 +78,76 @@ fn full_of(error: BuildError) -> Stop
     }
 }
 
-/// A base and its words, with the entry that is read from them.
-fn with_entry(
-    alloc: Global,
-    dataset: Dataset,
-    base: Base,
-    mut words: VecWords,
-) -> Result<Begun, NoMemory>
-    requires image { (at : ℕ) × Image dataset base (ingested dataset base at) words.words }
-    requires fits { (e : TheBuildError) → IsFull dataset base e → ⊥ }
-    ensures made { IfOk result (λ b. IsIngest b.ingest) }
-    ensures words { IfOk result (λ b. AreWords b.ingest b.words.words) }
-    ensures dataset { IfOk result (λ b. b.ingest.dataset ≡ dataset) }
-    ensures base { IfOk result (λ b. b.ingest.base ≡ base) }
-    ensures time { (at : ℕ) → Image dataset base (ingested dataset base at) words.words → IfOk result (λ b. b.ingest.entry.at ≡ at) }
+/// The base that two tables spell.
+fn base_of(alloc: Global, dataset: &Dataset, tables: &Tables) -> Result<Base, Stop>
+    ensures spells { IfOk result (λ b. Spells dataset.now tables.now.supervoxels.items tables.now.edges.items b) }
+    ensures base { IfOk result (λ b. IsBase dataset.now b) }
+    ensures stop { IfErr result (StopsForTable (Faulty dataset.now tables.now.supervoxels.items tables.now.edges.items)) }
 {
-    let entry = entry(alloc, &mut words, 0)?;
-    let records = words.len() / 8;
-    Ok(Begun {
-        ingest: Ingest {
-            dataset,
-            base,
-            entry,
-            records,
-        },
-        words,
-    })
+    match read_base(
+        alloc,
+        tables.supervoxels.as_slice(),
+        tables.edges.as_slice(),
+        dataset,
+    ) {
+        Ok(base) => Ok(base),
+        Err(error) => Err(table_stop(error)),
+    }
 }
 
-/// What two tables make: `BadTable` exactly where a record has a cause, `IdsSpent` and `TooSmall`
-/// exactly where they spell a base whose records can't be had, unless memory ran out.
-pub fn make_ingest(
-    alloc: Global,
-    job: &RehearseJob,
-    supervoxels: &[u8],
-    edges: &[u8],
-) -> Result<Begun, Stop>
+/// The clients that a schedule names. Without one none is named.
+fn numbers_of(alloc: Global, schedule: &Option<Vec<u8>>, clients: u32) -> Result<Vec<u32>, Stop>
+    requires { IsShort (option_map (λ v. v.items) schedule.now) }
+    ensures named { IfOk result (λ v. Named clients (option_map (λ v. v.items) schedule.now) v.items) }
+    ensures stop { IfErr result (StopsForWord (NotNamed clients (option_map (λ v. v.items) schedule.now))) }
+{
+    match schedule {
+        None => Ok(Vec::new(alloc)),
+        Some(text) => match read_schedule(alloc, text.as_slice(), clients) {
+            Ok(numbers) => Ok(numbers),
+            Err(error) => Err(word_stop(error)),
+        },
+    }
+}
+
+/// The words of a base's first entry, at a clock's first time.
+fn words_of(alloc: Global, dataset: &Dataset, base: &Base, clock: &Ticks) -> Result<VecWords, Stop>
+    requires dataset { IsDataset dataset.now }
+    requires base { IsBase dataset.now base.now }
+    ensures image { IfOk result (λ w. Image dataset.now base.now (ingested dataset.now base.now (clock_time clock.now 0)) w.words) }
+    ensures room { IfOk result (λ w. 8 * dataset.now.capacity ≤ length w.words + w.spare) }
+    ensures fits { OnOk result ((e : TheBuildError) → IsFull dataset.now base.now e → ⊥) }
+    ensures stop { IfErr result (StopsForRecords (IsFull dataset.now base.now)) }
+{
+    match build(alloc, base, dataset, clock.time(0)) {
+        Ok(words) => Ok(words),
+        Err(error) => Err(records_stop(error)),
+    }
+}
+
+/// What the texts of a job make. The tables are looked into before the schedule, and the schedule
+/// before the base's records are made.
+pub fn make_input(alloc: Global, job: &RehearseJob, texts: &Texts) -> Result<JobBase, Stop>
     requires ranges { RehearseRanges job.now }
-    ensures made { IfOk result (λ b. IsIngest b.ingest) }
-    ensures words { IfOk result (λ b. AreWords b.ingest b.words.words) }
-    ensures dataset { IfOk result (λ b. b.ingest.dataset ≡ dataset_of job.now) }
-    ensures base { IfOk result (λ b. Spells (dataset_of job.now) supervoxels.now edges.now b.ingest.base) }
-    ensures time { IfOk result (λ b. b.ingest.entry.at ≡ clock_time job.now.clock 0) }
-    ensures stop { IfErr result (λ stop. MakesStop (dataset_of job.now) supervoxels.now edges.now stop) }
+    requires short { IsShort (schedule_text texts.now) }
+    ensures made { IfOk result (λ r. IsMade job.now texts.now r) }
+    ensures stop { IfErr result (λ stop. MakesStop job.now texts.now stop) }
 {
     let dataset = dataset_of(job);
-    let base = match read_base(alloc, supervoxels, edges, &dataset) {
+    let base = match base_of(alloc, &dataset, &texts.tables) {
         Ok(base) => base,
-        Err(error) => return Err(stop_of(error)),
+        Err(stop) => return Err(stop),
     };
-    let words = match build(alloc, &base, &dataset, job.clock.time(0)) {
-        Ok(words) => words,
-        Err(error) => return Err(full_of(error)),
+    let schedule = match numbers_of(alloc, &texts.schedule, count_of(&job.stems)) {
+        Ok(schedule) => schedule,
+        Err(stop) => return Err(stop),
     };
-    match with_entry(alloc, dataset, base, words) {
-        Ok(begun) => Ok(begun),
-        Err(_) => Err(Stop::NoMemory),
+    match words_of(alloc, &dataset, &base, &job.clock) {
+        Ok(words) => Ok(JobBase {
+            dataset,
+            words,
+            schedule,
+        }),
+        Err(stop) => Err(stop),
     }
 }

@@ -5,11 +5,13 @@
 //! records can't be had are answered exactly where the bytes at the place say so, unless a read
 //! failed or memory ran out before.
 //!
-//! - `tables`: the texts are read, and the steps behind them
-//! - `bases`: what two tables make
+//! - `texts`: the texts of a job are read
+//! - `bases`: what texts make
+//! - `tables`: the call
 #![tactic(auto)]
 
 mod bases;
 mod tables;
+mod texts;
 
 pub use tables::{JobBase, read_input};

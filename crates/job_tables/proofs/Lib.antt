@@ -1,0 +1,4 @@
+pub mod Later
+pub mod MadeLemmas
+pub mod Numbers
+pub mod TextLemmas
