@@ -16,7 +16,7 @@ use Rattle.job_files.specs.Kept.{AreKeptIn}
 use Rattle.job_files.specs.Seen.{EachStep, IsLater, IsLaterAt, IsSame, KeepsIn, ReadRose, Seen, WasOpened}
 use Rattle.job_files.specs.declared.opening.OpenFault.{OpenFault}
 use Rattle.job_files.specs.declared.opening.OpenFault.TheVariants as faults
-use Rattle.job_files.proofs.Counting.{all_then, at_each, files_then, later_then, rose_after, rose_before, same_at, same_later, same_still, same_then}
+use Rattle.job_files.proofs.Counting.{all_then, at_each, differs, files_then, later_then, rose_after, rose_before, same_at, same_later, same_still, same_then}
 use Rattle.job_files.proofs.KeptIn.{are_kept_in, first_differs}
 use Rattle.job_files.proofs.Steps.{each_later, in_later, of_source}
 
@@ -153,8 +153,8 @@ read_before a b c name k h = record { place = rose_before a.reads b.reads c.read
 pub opens_front : {S : Type 0} (left : S → Option (List ℕ)) (faults : S → ℕ) (is_ready is_ready' : List ℕ → Bool) (names : List (List ℕ)) (at : ℕ) (xs : List S) (first now new : Seen) (name : List ℕ) (error : PlaceError) (client : ℕ) (fault : OpenFault)
     → OpenedSoFar left faults is_ready names at xs first now → slice_get names at ≡ Some name → KeepsFiles now.files new.files → new.writes ≡ now.writes → IsLater now new
     → (error ≡ errors.Failed → ReadRose now new name) → ((n : List ℕ) → is_ready n ≡ true → is_ready' n ≡ true) → client ≡ at + 1 → fault ≡ fault_of error client
-    → OpensFront left faults is_ready' names xs first new fault
-opens_front left faults is_ready is_ready' names at xs first now new name error client fault k g f w l rose stays one is =
+    → ((n : List ℕ) → new.left n ≡ now.left n) → OpensFront left faults is_ready' names xs first new fault
+opens_front left faults is_ready is_ready' names at xs first now new name error client fault k g f w l rose stays one is now_left =
     let up = same_later first now k.same in
     let within = slice_get_within names at name g in
     record {
@@ -163,6 +163,7 @@ opens_front left faults is_ready is_ready' names at xs first now new name error 
       ready = subst (λ n. AllByRecursion (λ m. is_ready' m ≡ true) (take n names)) (sym k.count) (all_then (λ n. is_ready n ≡ true) (λ n. is_ready' n ≡ true) stays (take at names) k.ready);
       files = files_then first.files now.files new.files k.same.files f;
       writes = w ∙ k.same.writes;
+      lefts = λ n. now_left n ∙ k.same.left n;
       later = later_then first now new up l;
       why = subst (λ x. FailsIn (length xs) names first new x) (sym is) (subst (λ n. FailsIn n names first new (fault_of error client)) (sym k.count) (go error rose));
     }
@@ -172,6 +173,14 @@ opens_front left faults is_ready is_ready' names at xs first now new name error 
     go errors.NoMemory r = tt
 
 -- ---- those before are kept back
+-- what sources of other names have left
+left_elsewhere : (names : List (List ℕ)) (xs : List (Option (List ℕ) × ℕ)) (old new : Seen) → EachStep KeepsIn names xs old new → (name : List ℕ) → list_any (bytes_eq name) names ≡ false → new.left name ≡ old.left name
+left_elsewhere names [] old new h name e = ap (λ (x : Seen). x.left name) h
+left_elsewhere [] (x ∷ xs) old new h name e = absurd h
+left_elsewhere (n ∷ names) (x ∷ xs) old new h name e =
+    let q = or_parts (bytes_eq name n) (list_any (bytes_eq name) names) e in
+    left_elsewhere names xs h.0 new h.2 name q.1 ∙ h.1.only_left name (differs name n q.0)
+
 opened_at : {S : Type 0} (left : S → Option (List ℕ)) (faults : S → ℕ) (files : Option Files) (names : List (List ℕ)) (xs : List S) (k : ℕ) (name : List ℕ)
     → AreOpened left faults files names xs → slice_get names k ≡ Some name → (x : S) × (slice_get xs k ≡ Some x) × IsOpened left faults files name x
 opened_at left faults files [] xs k name h g = absurd (none-some name g)
@@ -199,6 +208,9 @@ module _ {S : Type 0} (left : S → Option (List ℕ)) (counts : S → ℕ) (is_
 
   pub front_later : IsLater old mid → IsLater old new
   front_later up = later_then old mid new up (each_later KeepsIn in_later (take (length xs) names) (map (of_source left counts) xs) mid new step)
+
+  pub front_left : ((name : List ℕ) → mid.left name ≡ old.left name) → (name : List ℕ) → list_any (bytes_eq name) names ≡ false → new.left name ≡ old.left name
+  front_left same name e = left_elsewhere (take (length xs) names) (map (of_source left counts) xs) mid new step name (any_front (bytes_eq name) (length xs) names e) ∙ same name
 
   pub requests_shut : (fault : OpenFault) → OpensFront left counts is_ready names xs old mid fault → RequestsShut names old new fault
   requests_shut fault f = go fault f.why

@@ -41,6 +41,7 @@ pub record OpensFront {S : Type 0} (left : S → Option (List ℕ)) (faults : S 
   pub ready : AllByRecursion (λ name. is_ready name ≡ true) (take (length xs) names)
   pub files : KeepsFiles old.files new.files
   pub writes : new.writes ≡ old.writes
+  pub lefts : (name : List ℕ) → new.left name ≡ old.left name
   pub later : IsLater old new
   pub why : FailsIn (length xs) names old new fault
 

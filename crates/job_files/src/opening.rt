@@ -1,7 +1,7 @@
 //! Requests and answers are opened.
 
-ghost use Rattle.std.specs.Prelude.{◌≡◌, ◌≤◌, ◌<◌, ◌+◌, ◌-◌, ◌^◌, ◌++◌, ◌∷◌, ℕ, List, [], length, true, vec_capacity, vec_len, IfErr, IfOk, IsErrOf, IsTrue, OnErr, OnOk};
-ghost use Rattle.std.specs.List.{AllByRecursion};
+ghost use Rattle.std.specs.Prelude.{◌≡◌, ◌≤◌, ◌<◌, ◌+◌, ◌-◌, ◌^◌, ◌++◌, ◌∷◌, ℕ, List, [], bytes_eq, false, length, true, vec_capacity, vec_len, IfErr, IfOk, IsErrOf, IsTrue, OnErr, OnOk};
+ghost use Rattle.std.specs.List.{AllByRecursion, list_any};
 ghost use Rattle.pcg_base.specs.Told.{KeepsFiles};
 ghost use Rattle.pcg_words.specs.Job.{all_differ};
 ghost use Rattle.job_files.specs.Clients.{AnswersOpen, AnswersShut, AreEmpty, AreOpened, RequestsShut};
@@ -56,6 +56,7 @@ fn open_request<P: Place>(place: &mut P, name: &Name) -> Result<P::In, PlaceErro
     ensures writes { P.write_faults place.new ≡ P.write_faults place.old }
     ensures later { IsLater (seen P.files P.left_at P.read_faults P.write_faults P.counts place.old) (seen P.files P.left_at P.read_faults P.write_faults P.counts place.new) }
     ensures stays { (n : List ℕ) → P.opened_in place.old n ≡ true → P.opened_in place.new n ≡ true }
+    ensures left { (n : List ℕ) → P.left_at place.new n ≡ P.left_at place.old n }
 {
     place.source_of(name.text.as_str())
 }
@@ -104,6 +105,7 @@ where
     ensures same { OnOk result (IsSame (seen P.files P.left_at P.read_faults P.write_faults P.counts place.old) (seen P.files P.left_at P.read_faults P.write_faults P.counts place.new)) }
     ensures opened { OnOk result (AllByRecursion (λ n. P.opened_in place.new n ≡ true) names.now) }
     ensures shut { IfErr result (RequestsShut names.now (seen P.files P.left_at P.read_faults P.write_faults P.counts place.old) (seen P.files P.left_at P.read_faults P.write_faults P.counts place.new)) }
+    ensures elsewhere { (n : List ℕ) → list_any (bytes_eq n) names.now ≡ false → P.left_at place.new n ≡ P.left_at place.old n }
     ensures later { IsLater (seen P.files P.left_at P.read_faults P.write_faults P.counts place.old) (seen P.files P.left_at P.read_faults P.write_faults P.counts place.new) }
 {
     let Ok(mut sources) = Vec::with_capacity(alloc, names.len()) else {

@@ -31,7 +31,7 @@ returns-in-Err-clause-front g c =
     let there = slice_get_read names (length names) c.loop-at.at c.index-names-at.result refl within c.index-names-at.is in
     opens_front g.P.In.Source.left g.P.In.Source.faults (g.P.Place.opened_in c.loop-at.place) (g.P.Place.opened_in c.open_request.new.place) names c.loop-at.at c.loop-at.sources.items (seen g.P.Place.files g.P.Place.left_at g.P.Place.read_faults g.P.Place.write_faults g.P.Place.counts c.args.place.now) (seen g.P.Place.files g.P.Place.left_at g.P.Place.read_faults g.P.Place.write_faults g.P.Place.counts c.loop-at.place) (seen g.P.Place.files g.P.Place.left_at g.P.Place.read_faults g.P.Place.write_faults g.P.Place.counts c.open_request.new.place) c.index-names-at.result c.in-Err.error (c.loop-at.at + 1) c.fault_of.result
     c.loop-at.invariant.0 there c.open_request.ensures.files c.open_request.ensures.writes c.open_request.ensures.later
-    (λ is. c.in-Err.ensures.failed (ap (λ (e : PlaceError). Err e) is)) c.open_request.ensures.stays refl c.fault_of.ensures
+    (λ is. c.in-Err.ensures.failed (ap (λ (e : PlaceError). Err e) is)) c.open_request.ensures.stays refl c.fault_of.ensures c.open_request.ensures.left
 
 pub returns-clause-ok : goal.returns-clause-ok
 returns-clause-ok g c =
