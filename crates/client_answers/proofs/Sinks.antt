@@ -9,7 +9,7 @@ use Rattle.op_model.proofs.TranscriptLemmas.{reverse_more}
 use Rattle.request_lines.specs.Texts.{text_of_reply}
 use Rattle.pcg_base.specs.Causes.{Rose}
 use Rattle.pcg_base.specs.Told.{AppendsFront}
-use Rattle.session_machine.specs.Machine.{ClientState, Ended}
+use Rattle.session_machine.specs.Machine.{ClientState, Ended, Ready}
 use Rattle.client_answers.specs.declared.answers.ClientAnswers.{ClientAnswers}
 use Rattle.client_answers.specs.Answers.{IsBroken, IsWritten, one_more, refuses}
 use Rattle.client_answers.specs.Written.{Answered, FaultsSo, HasTexts, IsFresh, counted, texts}
@@ -64,16 +64,21 @@ turned : (r : Reply) (rs written : List Reply) (l : Option Reply) → l ≡ None
 turned r rs written l n e =
     sym (append-nil (reverse (r ∷ rs))) ∙ (reverse_more r rs [] ∙ ap (λ w. w ++ r ∷ []) (e ∙ (ap (λ x. written ++ option_to_list x) n ∙ append-nil written)))
 
+-- no client is ready and has ended
+not_both : {A : Type 0} (s : ClientState) → s.phase ≡ Ready → s.phase ≡ Ended → A
+not_both s p q = let e : Ready ≡ Ended = sym p ∙ q in cc
+
 module _ {K : Type 0} (held : K → Option (List ℕ)) (faults : K → ℕ) where
   -- before the first reply
-  pub fresh : (x : ClientAnswers K) (s : ClientState) → IsFresh x → s.replies ≡ [] → Answered held faults x x s
-  fresh x s f e =
+  pub fresh : (x : ClientAnswers K) (s : ClientState) → IsFresh x → s.replies ≡ [] → s.phase ≡ Ready → Answered held faults x x s
+  fresh x s f e p =
       record {
         written = [];
         last = None;
         replies = ap (λ rs. reverse rs) e;
         broke = f.failed;
         ended = λ q. absurd (false≢true (sym f.failed ∙ q));
+        drained = λ q n. not_both s p n;
         texts = subst (λ t. Appends (held x.sink) (held x.sink) t) (sym texts_none) (appends_none (held x.sink));
         faults_so = subst (λ t. FaultsSo (faults x.sink) (faults x.sink) t) (sym f.failed) refl;
         lines = f.lines;
@@ -81,14 +86,15 @@ module _ {K : Type 0} (held : K → Option (List ℕ)) (faults : K → ℕ) wher
       }
 
   -- the client goes on without a reply
-  pub kept : (x y : ClientAnswers K) (s t : ClientState) → Answered held faults x y s → t.replies ≡ s.replies → y.failed ≡ false → Answered held faults x y t
-  kept x y s t a e f =
+  pub kept : (x y : ClientAnswers K) (s t : ClientState) → Answered held faults x y s → t.replies ≡ s.replies → (t.phase ≡ Ended → t.lines ≡ []) → y.failed ≡ false → Answered held faults x y t
+  kept x y s t a e n f =
       record {
         written = a.written;
         last = a.last;
         replies = ap (λ rs. reverse rs) e ∙ a.replies;
         broke = a.broke;
         ended = λ q. absurd (false≢true (sym f ∙ q));
+        drained = λ q. n;
         texts = a.texts;
         faults_so = a.faults_so;
         lines = a.lines;
@@ -102,15 +108,16 @@ module _ {K : Type 0} (held : K → Option (List ℕ)) (faults : K → ℕ) wher
   still x y s a f = subst (λ t. FaultsSo (faults x.sink) (faults y.sink) t) f a.faults_so
 
   -- a reply was written
-  pub put : (x y z : ClientAnswers K) (s t : ClientState) (r : Reply) → Answered held faults x y s → y.failed ≡ false → IsWritten held faults y r z → t.replies ≡ r ∷ s.replies
+  pub put : (x y z : ClientAnswers K) (s t : ClientState) (r : Reply) → Answered held faults x y s → y.failed ≡ false → IsWritten held faults y r z → t.replies ≡ r ∷ s.replies → t.phase ≡ Ready
       → Answered held faults x z t
-  put x y z s t r a f w e =
+  put x y z s t r a f w e p =
       record {
         written = a.written ++ r ∷ [];
         last = None;
         replies = ap (λ rs. reverse rs) e ∙ (turned r s.replies a.written a.last (none_left a.last (sym f ∙ a.broke)) a.replies ∙ sym (append-nil (a.written ++ r ∷ [])));
         broke = w.failed ∙ f;
         ended = λ q. absurd (false≢true (sym (w.failed ∙ f) ∙ q));
+        drained = λ q n. not_both t p n;
         texts = behind (held x.sink) (held y.sink) (held z.sink) (texts a.written) (text_of_reply r) (texts (a.written ++ r ∷ [])) (texts_more a.written r) (whole x y s a f) w.text;
         faults_so = subst (λ b. FaultsSo (faults x.sink) (faults z.sink) b) (sym (w.failed ∙ f)) (w.still ∙ still x y s a f);
         lines = w.lines ∙ (ap one_more a.lines ∙ (counted_more (length a.written) ∙ ap counted (sym (longer a.written))));
@@ -130,6 +137,7 @@ module _ {K : Type 0} (held : K → Option (List ℕ)) (faults : K → ℕ) wher
         replies = ap (λ rs. reverse rs) e ∙ turned r s.replies a.written a.last (none_left a.last (sym f ∙ a.broke)) a.replies;
         broke = w.failed;
         ended = λ q. end;
+        drained = λ q n. absurd (false≢true (sym q ∙ w.failed));
         texts = front_behind (held x.sink) (held y.sink) (held z.sink) (texts a.written) r (whole x y s a f) w.text;
         faults_so = subst (λ b. FaultsSo (faults x.sink) (faults z.sink) b) (sym w.failed) (subst (λ n. Rose n (faults z.sink)) (still x y s a f) w.rose);
         lines = w.lines ∙ a.lines;

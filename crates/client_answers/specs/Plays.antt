@@ -1,8 +1,7 @@
 -- Plays of the core, without their outlet.
-use Rattle.std.specs.Prelude.{◌≡◌, ◌⊎◌, ℕ, suc, pred, Bool, true, false, List, [], ◌∷◌, length, slice_get, Option, Some, None}
+use Rattle.std.specs.Prelude.{◌≡◌, ◌⊎◌, ℕ, pred, Bool, true, false, List, [], ◌∷◌, length, slice_get, Option, Some}
 use Rattle.op_model.specs.declared.base.Dataset.{Dataset}
 use Rattle.op_model.specs.declared.base.Base.{Base}
-use Rattle.op_model.specs.declared.reply.Reply.{Reply}
 use Rattle.op_model.specs.Transcript.{Line}
 use Rattle.session_machine.specs.Machine as machine
 use Rattle.session_machine.specs.Play.{AllEnded, first_able}
@@ -42,10 +41,11 @@ module _ (d : Dataset) (b : Base) (ticks : Ticks) where
     pub rest : StepsLeast turns mid v
     pub ended : AllEnded v
 
--- What a play over these sinks came to: it is that of the schedule, the log is legal and each entry is of one of the clients, each client's replies are a transcript and were written to its sink, and where none failed each line has one.
+-- What a play over these sinks came to: it is that of the schedule, the log is legal and each entry is of one of the clients, each client's replies are a transcript and were written to its sink, and where none failed each line has one. No sink came or went.
 pub record IsPlayed {K : Type 0} (held : K → Option (List ℕ)) (faults : K → ℕ) (d : Dataset) (b : Base) (at : ℕ) (clients : List (List Line × Bool)) (ticks : Ticks) (schedule : List ℕ) (old new : AllAnswers K) (v : machine.State) : Type 0 where
   pub played : Played d b at clients v
   pub answered : AllAnswered held faults old.list.items new.list.items v.clients
+  pub count : length new.list.items ≡ length old.list.items
   pub play : IsPlay d b ticks schedule (machine.start d b at clients) v
   pub owned : EntriesOwned (length clients) v.shared.log
   pub each : (k : ℕ) (s : machine.ClientState) (y : ClientAnswers K) (l : List Line × Bool) → slice_get v.clients k ≡ Some s → slice_get new.list.items k ≡ Some y → slice_get clients k ≡ Some l

@@ -7,6 +7,7 @@ use Rattle.op_model.specs.Records.{records}
 use Rattle.request_lines.specs.Texts.{text_of_entry}
 use Rattle.histories.specs.Histories.{live_roots}
 use Rattle.log_lines.specs.declared.writing.LogCounts.{LogCounts}
+use Rattle.log_lines.specs.declared.writing.RootChange.{RootChange}
 
 -- the lines of a log, its oldest entry first
 unfoldable pub log_text : List Entry → List ℕ
@@ -18,3 +19,8 @@ pub record Counts (d : Dataset) (b : Base) (log : List Entry) (c : LogCounts) : 
   pub entries : c.entries ≡ length log
   pub records : c.records ≡ records d b log
   pub roots : c.roots ≡ length (live_roots log)
+
+-- an entry makes and retires so many roots
+pub record IsRootChange (e : Entry) (x : RootChange) : Type 0 where
+  pub made : x.made ≡ length e.made
+  pub retired : x.retired ≡ length e.retired

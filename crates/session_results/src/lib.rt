@@ -4,11 +4,13 @@
 //! stands behind all replies, each client's replies are a transcript of its lines, and the faults
 //! and the counts are those of the sessions.
 //!
-//! - `playing`: a core is made, played and taken apart
+//! - `starting`: a core before its first step
+//! - `playing`: it is played and taken apart
 //! - `counting`: the faults of sessions, and how many replies were written
 #![tactic(auto)]
 
 mod counting;
 mod playing;
+mod starting;
 
 pub use playing::{SessionsDone, SessionsEnd, play_sessions};

@@ -1,4 +1,22 @@
-//! A core is made, played and taken apart.
+//! A core is played and taken apart.
+
+ghost use Rattle.std.specs.Prelude.{◌≡◌, ◌≤◌, ◌<◌, ◌*◌, ◌+◌, ◌^◌, ℕ, List, [], length, sum_by, vec_capacity, IfNone, IfSome};
+ghost use Rattle.std.specs.List.{AllByRecursion};
+ghost use Rattle.op_model.specs.declared.base.Base.{Base};
+ghost use Rattle.op_model.specs.Ingest.{ingested};
+ghost use Rattle.record_rows.specs.Readings.{Image};
+ghost use Rattle.client_answers.specs.Written.{IsFresh};
+ghost use Rattle.session_results.specs.Begun.{faults_told};
+ghost use Rattle.session_results.specs.Ended.{AreDone, AreLines, Source};
+
+use crate::counting::{line_count, put_faults, refused_count};
+use crate::starting::{Begun, begin};
+use call_lines::ClientFault;
+use client_answers::{AllAnswers, ClientAnswers, play};
+use op_model::Dataset;
+use pcg_base::{Sink, Ticks, VecWords};
+use std::alloc::Global;
+use stream_lines::StreamLines;
 
 /// What sessions came to that were played.
 #[derive(Drop)]
@@ -20,6 +38,31 @@ pub struct SessionsEnd<K: Drop> {
     pub answers: Vec<ClientAnswers<K>>,
     /// What the sessions came to. `None` where memory ran out before the first step.
     pub done: Option<SessionsDone>,
+}
+
+/// What sessions came to whose play has ended.
+fn told<K: Drop>(begun: Begun, answers: &[ClientAnswers<K>]) -> SessionsDone
+    requires few { length answers.now ≤ 64 }
+    requires each { length begun.ends.items ≡ length answers.now }
+    requires none { begun.faults.items ≡ [] }
+    requires room { length answers.now ≤ vec_capacity begun.faults }
+    ensures words { result.words ≡ begun.core.rows.words }
+    ensures faults { result.faults.items ≡ faults_told 1 answers.now begun.ends.items }
+    ensures lines { result.lines ≡ sum_by (λ x. x.lines) answers.now }
+    ensures refused { result.refused ≡ sum_by (λ x. x.refused) answers.now }
+{
+    let Begun {
+        core,
+        ends,
+        mut faults,
+    } = begun;
+    put_faults(&mut faults, answers, ends.as_slice());
+    SessionsDone {
+        words: core.into_rows().into_words(),
+        faults,
+        lines: line_count(answers),
+        refused: refused_count(answers),
+    }
 }
 
 /// Plays a schedule over the lines of all clients: a step of each client that it names, and then
@@ -46,5 +89,18 @@ pub fn play_sessions<K: Sink + Drop>(
         → IfSome result.done (AreDone K.held K.faults dataset b at clock schedule.now sources answers.items result.answers.items) }
     ensures count { length result.answers.items ≡ length answers.items }
 {
-    todo
+    let Ok(mut begun) = begin(alloc, words, dataset, clock, read) else {
+        return SessionsEnd {
+            answers,
+            done: None,
+        };
+    };
+    let mut all = AllAnswers { list: answers };
+    play(alloc, &mut begun.core, schedule, &mut all);
+    let AllAnswers { list } = all;
+    let done = told(begun, list.as_slice());
+    SessionsEnd {
+        answers: list,
+        done: Some(done),
+    }
 }

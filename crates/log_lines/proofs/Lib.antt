@@ -1,0 +1,3 @@
+pub mod RootCounts
+pub mod Texts
+pub mod Walk

@@ -1,0 +1,7 @@
+pub mod Clients
+pub mod Exact
+pub mod History
+pub mod Outcomes
+pub mod Played
+pub mod Printing
+pub mod Served

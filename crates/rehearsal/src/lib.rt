@@ -1,0 +1,6 @@
+//! A rehearsal.
+#![tactic(auto)]
+
+mod printing;
+
+pub use printing::stopped;
