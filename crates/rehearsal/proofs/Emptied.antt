@@ -7,6 +7,7 @@ use Rattle.std.proofs.lemmas.Slice.Eq.{bytes_eq-Decides}
 use Rattle.pcg_base.specs.Causes.{Rose}
 use Rattle.pcg_base.specs.Told.{Files, KeepsFiles, TellsAt, TellsTo}
 use Rattle.client_answers.specs.declared.answers.ClientAnswers.{ClientAnswers}
+use Rattle.client_answers.specs.Written.{IsFresh}
 use Rattle.job_files.specs.declared.opening.OpenFault.{OpenFault}
 use Rattle.job_files.specs.declared.opening.OpenFault.TheVariants as opens
 use Rattle.job_files.specs.Seen.{IsLater, IsSame, ReadRose, Seen, WasOpened, WriteRose}
@@ -67,6 +68,12 @@ module _ {S : Type 0} (left : S → Option (List ℕ)) (faults : S → ℕ) wher
   never_failed files (name ∷ names) [] k = absurd k
   never_failed files (name ∷ names) (x ∷ xs) k = (k.1, never_failed files names xs k.2)
 
+  pub unfailed_each : (files : Option Files) (names : List (List ℕ)) (xs : List S) → AreOpened left faults files names xs → AllByRecursion (λ x. faults x ≡ 0) xs
+  unfailed_each files [] [] k = tt
+  unfailed_each files [] (x ∷ xs) k = absurd k
+  unfailed_each files (name ∷ names) [] k = absurd k
+  unfailed_each files (name ∷ names) (x ∷ xs) k = (k.1, unfailed_each files names xs k.2)
+
   pub each_opened : (files : Option Files) (names : List (List ℕ)) (xs : List S) → AreOpened left faults files names xs → (k : ℕ) (name : List ℕ) → slice_get names k ≡ Some name
       → (x : S) × (slice_get {X = Option (List ℕ) × ℕ} (map (λ x. (left x, faults x)) xs) k ≡ Some (left x, faults x)) × TellsAt files name (left x)
   each_opened files [] [] h k name e = cc
@@ -83,6 +90,12 @@ module _ {K : Type 0} (held : K → Option (List ℕ)) (faults : K → ℕ) wher
   empty_behind a b [] (x ∷ xs) h k = absurd k
   empty_behind a b (name ∷ names) [] h k = absurd k
   empty_behind a b (name ∷ names) (x ∷ xs) h k = (tells_to a b (held x.sink) [] h k.0, k.1, k.2, empty_behind a b names xs h k.3)
+
+  pub fresh_each : (files : Option Files) (names : List (List ℕ)) (xs : List (ClientAnswers K)) → AreEmpty held faults files names xs → AllByRecursion IsFresh xs
+  fresh_each files [] [] k = tt
+  fresh_each files [] (x ∷ xs) k = absurd k
+  fresh_each files (name ∷ names) [] k = absurd k
+  fresh_each files (name ∷ names) (x ∷ xs) k = (k.2, fresh_each files names xs k.3)
 
 pub same_keeps : (a b : Option Files) (names : List (List ℕ)) → KeepsFiles a b → AreEmptyOrSame names a b
 same_keeps None b names h = tt

@@ -51,14 +51,14 @@ sources_count (left ∷ lefts) [] e = absurd (omega (arith, e))
 sources_count (left ∷ lefts) (x ∷ xs) e = ap suc (sources_count lefts xs (omega (arith, e)))
 
 module _ {S : Type 0} (left : S → Option (List ℕ)) (faults : S → ℕ) where
-  opened_count : (files : _) (names : List (List ℕ)) (xs : List S) → AreOpened left faults files names xs → length xs ≡ length names
+  pub opened_count : (files : _) (names : List (List ℕ)) (xs : List S) → AreOpened left faults files names xs → length xs ≡ length names
   opened_count files [] [] h = refl
   opened_count files [] (x ∷ xs) h = absurd h
   opened_count files (name ∷ names) [] h = absurd h
   opened_count files (name ∷ names) (x ∷ xs) h = ap suc (opened_count files names xs h.2)
 
 module _ {K : Type 0} (held : K → Option (List ℕ)) (faults : K → ℕ) where
-  empty_count : (files : _) (names : List (List ℕ)) (xs : List (ClientAnswers K)) → AreEmpty held faults files names xs → length xs ≡ length names
+  pub empty_count : (files : _) (names : List (List ℕ)) (xs : List (ClientAnswers K)) → AreEmpty held faults files names xs → length xs ≡ length names
   empty_count files [] [] h = refl
   empty_count files [] (x ∷ xs) h = absurd h
   empty_count files (name ∷ names) [] h = absurd h

@@ -50,6 +50,11 @@ whole_front left faults requests sources a b c (Some m) opened same on kept k na
     let now : left one.0 ≡ Some (c.left name) = subst (λ f. TellsTo f (left one.0) (c.left name)) told.1 is in
     subst (λ x. TellsAt (Some m) name x) now at
 
+fewer_names : (answers : List (List ℕ)) (n : ℕ) (a b : Option Files) → KeepsOther a (take n answers) b → KeepsOther a answers b
+fewer_names answers n None b k = tt
+fewer_names answers n (Some m) None k = absurd k
+fewer_names answers n (Some m) (Some m') k = λ name e. k name (any_take (bytes_eq name) n answers e)
+
 -- no answers were opened: so did no session begin
 pub answers_stop : {S : Type 0} (left : S → Option (List ℕ)) (faults : S → ℕ) (requests answers : List (List ℕ)) (sources : List S) (s t u v : Seen) (fault : OpenFault) (stop : Stop)
     → IsSame s t → AreOpened left faults s.files requests sources → AnswersShut answers t u fault → AreKeptIn requests (map (λ x. (left x, faults x)) sources) u v
@@ -73,12 +78,33 @@ answers_stop left faults requests answers sources s t u v (opens.Failed client) 
     told m e = (emptied m (take (pred client) answers), subst (λ f. Empties f (take (pred client) answers) u.files) e (empties_behind s.files t.files u.files (take (pred client) answers) same.files h.4))
 answers_stop left faults requests answers sources s t u v opens.NoMemory stop same opened h kept law f n =
     let empties = empties_kept s.files u.files v.files (take h.0 answers) (empties_behind s.files t.files u.files (take h.0 answers) same.files h.2) kept.files in
-    subst (SessionsStop requests answers s v) (sym (n refl)) (emptied_same s.files v.files answers (take h.0 answers) empties, fewer s.files v.files (law s.files v.files (take h.0 answers) empties))
-  where
-    fewer : (a b : Option Files) → KeepsOther a (take h.0 answers) b → KeepsOther a answers b
-    fewer None b k = tt
-    fewer (Some m) None k = absurd k
-    fewer (Some m) (Some m') k = λ name e. k name (any_take (bytes_eq name) h.0 answers e)
+    subst (SessionsStop requests answers s v) (sym (n refl)) (emptied_same s.files v.files answers (take h.0 answers) empties, fewer_names answers h.0 s.files v.files (law s.files v.files (take h.0 answers) empties))
+
+-- whatever stopped it, other files stay
+pub stop_others : ((files files' : Option Files) (names : List (List ℕ)) → Empties files names files' → KeepsOther files names files') → (requests answers : List (List ℕ)) (s t : Seen) (stop : Stop)
+    → SessionsStop requests answers s t stop → KeepsOther s.files answers t.files
+stop_others law requests answers s t (stops.ReadFault client files.Requests) h = other_kept s.files t.files answers h.4
+stop_others law requests answers s t (stops.ReadFault client files.Supervoxels) h = absurd h
+stop_others law requests answers s t (stops.ReadFault client files.Edges) h = absurd h
+stop_others law requests answers s t (stops.ReadFault client files.Schedule) h = absurd h
+stop_others law requests answers s t (stops.ReadFault client files.Answers) h = absurd h
+stop_others law requests answers s t (stops.WriteFault client files.Answers) h = fewer_names answers (pred client) s.files t.files (law s.files t.files (take (pred client) answers) h.4)
+stop_others law requests answers s t (stops.WriteFault client files.Requests) h = absurd h
+stop_others law requests answers s t (stops.WriteFault client files.Supervoxels) h = absurd h
+stop_others law requests answers s t (stops.WriteFault client files.Edges) h = absurd h
+stop_others law requests answers s t (stops.WriteFault client files.Schedule) h = absurd h
+stop_others law requests answers s t stops.NoMemory h = h.1
+stop_others law requests answers s t stops.BadWords h = absurd h
+stop_others law requests answers s t (stops.TooLong client file) h = absurd h
+stop_others law requests answers s t (stops.BadTable table row cause) h = absurd h
+stop_others law requests answers s t (stops.BadSchedule word) h = absurd h
+stop_others law requests answers s t (stops.IdsSpent layer x y z) h = absurd h
+stop_others law requests answers s t (stops.TooSmall need given) h = absurd h
+
+-- answers that weren't opened leave all sources as they were
+pub shut_left : (answers : List (List ℕ)) (s t : Seen) (fault : OpenFault) → AnswersShut answers s t fault → (n : List ℕ) → t.left n ≡ s.left n
+shut_left answers s t (opens.Failed client) h = h.6
+shut_left answers s t opens.NoMemory h = h.4
 
 module _ {K : Type 0} (held : K → Option (List ℕ)) (faults : K → ℕ) where
   -- an empty sink at each of these names

@@ -1,5 +1,6 @@
 -- Files that are opened, sessions that are played, and files that are kept back, together.
 use Rattle.std.proofs.Common.{◌≡◌, ◌≤◌, ◌<◌, ℕ, List, [], ◌∷◌, map, length, Option, Some, None, IsTrue, bytes_eq, false, refl, sym, ◌∙◌, ap, subst, arith}
+use Rattle.std.specs.Prelude.{IfSome}
 use Rattle.std.specs.List.{list_any}
 use Rattle.op_model.specs.declared.base.Dataset.{Dataset}
 use Rattle.op_model.specs.declared.base.Base.{Base}
@@ -91,3 +92,7 @@ module _ (inlaw : SourcesKept) (outlaw : SinksKept) (emptied : AnswersEmptied) (
     pub unplayed_left : (n : List ℕ) → list_any (bytes_eq n) requests ≡ false → v.left n ≡ s.left n
     unplayed_left n e =
         (outlaw answers (map (kept_of held out_faults) sinks) p.mid v ad p.kept_out).left n ∙ left_elsewhere requests p.kept t p.mid p.kept_in n e ∙ h.left n
+
+pub if_some_then : {A : Type 0} {P Q : A → Type 0} (o : Option A) → ((x : A) → P x → Q x) → IfSome o P → IfSome o Q
+if_some_then None f h = tt
+if_some_then (Some x) f h = f x h

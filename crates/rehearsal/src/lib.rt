@@ -1,6 +1,7 @@
 //! A rehearsal.
 #![tactic(auto)]
 
+mod clients;
 mod printing;
 
 pub use printing::stopped;
