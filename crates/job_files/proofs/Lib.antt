@@ -3,6 +3,7 @@ pub mod Steps
 mod KeptIn
 mod KeptOut
 pub mod Emptying
-mod Openings
+pub mod Openings
 mod AnswerOpenings
 mod ReadLines
+pub mod Callers

@@ -181,14 +181,14 @@ left_elsewhere (n ∷ names) (x ∷ xs) old new h name e =
     let q = or_parts (bytes_eq name n) (list_any (bytes_eq name) names) e in
     left_elsewhere names xs h.0 new h.2 name q.1 ∙ h.1.only_left name (differs name n q.0)
 
-opened_at : {S : Type 0} (left : S → Option (List ℕ)) (faults : S → ℕ) (files : Option Files) (names : List (List ℕ)) (xs : List S) (k : ℕ) (name : List ℕ)
+pub opened_at : {S : Type 0} (left : S → Option (List ℕ)) (faults : S → ℕ) (files : Option Files) (names : List (List ℕ)) (xs : List S) (k : ℕ) (name : List ℕ)
     → AreOpened left faults files names xs → slice_get names k ≡ Some name → (x : S) × (slice_get xs k ≡ Some x) × IsOpened left faults files name x
 opened_at left faults files [] xs k name h g = absurd (none-some name g)
 opened_at left faults files (n ∷ ns) [] k name h g = absurd h
 opened_at left faults files (n ∷ ns) (x ∷ xs) zero name h g = (x, refl, subst (λ m. IsOpened left faults files m x) (same_Some n name g) (h.0, h.1))
 opened_at left faults files (n ∷ ns) (x ∷ xs) (suc k) name h g = opened_at left faults files ns xs k name h.2 g
 
-was_opened : (f g : Option Files) (lefts : List ℕ → List ℕ) (name : List ℕ) (left : Option (List ℕ)) → KeepsFiles f g → TellsAt f name left → TellsTo g left (lefts name) → WasOpened f lefts name
+pub was_opened : (f g : Option Files) (lefts : List ℕ → List ℕ) (name : List ℕ) (left : Option (List ℕ)) → KeepsFiles f g → TellsAt f name left → TellsTo g left (lefts name) → WasOpened f lefts name
 was_opened None g lefts name left k told to = tt
 was_opened (Some m) g lefts name None k told to = absurd told
 was_opened (Some m) g lefts name (Some bytes) k told to =

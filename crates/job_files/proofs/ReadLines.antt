@@ -44,6 +44,14 @@ read_count (l ∷ ls) [] rs h = absurd h
 read_count (l ∷ ls) (y ∷ ys) [] h = absurd h
 read_count (l ∷ ls) (y ∷ ys) (s ∷ ss) h = ap suc (read_count ls ys ss h.1)
 
+-- what holds of all of a list holds of the one behind a front
+pub all_between : {A : Type 0} (P : A → Type 0) (all front rest : List A) (x : A) (after : List A) → front ++ rest ≡ all → rest ≡ x ∷ after → AllByRecursion P all → P x
+all_between {A = A} P all front rest x after e k h = go front (subst (λ xs. AllByRecursion P xs) (sym (ap (λ xs. front ++ xs) (sym k) ∙ e)) h)
+  where
+    go : (xs : List A) → AllByRecursion P (xs ++ x ∷ after) → P x
+    go [] h = h.0
+    go (y ∷ ys) h = go ys h.1
+
 -- nothing was read of sources that were kept back at once
 none_begun : {S : Type 0} (left : S → Option (List ℕ)) (faults : S → ℕ) (xs : List S) → AreBegun (map left xs) (map (of_source left faults) xs)
 none_begun left faults [] = tt
