@@ -9,3 +9,5 @@ pub mod Unplayed
 pub mod Whole
 pub mod Exact
 pub mod Dues
+pub mod Before
+pub mod Coming

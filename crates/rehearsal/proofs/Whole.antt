@@ -1,11 +1,12 @@
 -- Files that are opened, sessions that are played, and files that are kept back, together.
-use Rattle.std.proofs.Common.{◌≡◌, ◌≤◌, ◌<◌, ℕ, List, [], ◌∷◌, map, length, Option, Some, None, IsTrue, bytes_eq, false, refl, sym, ◌∙◌, ap, subst, arith}
-use Rattle.std.specs.Prelude.{IfSome}
-use Rattle.std.specs.List.{list_any}
+use Rattle.std.proofs.Common.{◌≡◌, ◌≤◌, ◌<◌, ℕ, ◌+◌, ◌*◌, List, [], ◌∷◌, map, length, Option, Some, None, IsTrue, bytes_eq, false, refl, sym, ◌∙◌, ap, subst, arith}
+use Rattle.std.specs.Prelude.{Err, IfErr, IfOk, IfSome, Ok, Result}
+use Rattle.std.specs.List.{AllByRecursion, list_any}
 use Rattle.op_model.specs.declared.base.Dataset.{Dataset}
 use Rattle.op_model.specs.declared.base.Base.{Base}
 use Rattle.pcg_base.specs.declared.clock.Ticks.{Ticks}
 use Rattle.pcg_base.specs.Told.{Files, KeepsFiles}
+use Rattle.pcg_words.specs.declared.job.RehearseJob.{RehearseJob}
 use Rattle.pcg_words.specs.Job.{all_differ, answer_file, request_file}
 use Rattle.client_answers.specs.declared.answers.ClientAnswers.{ClientAnswers}
 use Rattle.job_files.specs.Seen.{EachStep, IsLater, KeepsIn, KeepsOut, Seen}
@@ -13,7 +14,8 @@ use Rattle.job_files.specs.Clients.{AnswersOpen, AreEmpty, AreOpened, Empties, k
 use Rattle.job_files.specs.Kept.{AreKeptIn, AreKeptOut, KeepsOther}
 use Rattle.job_files.proofs.Counting.{later_then}
 use Rattle.call_lines.specs.declared.stops.Stop.TheVariants as stops
-use Rattle.job_tables.specs.Inputs.{clock_time}
+use Rattle.job_tables.specs.declared.tables.JobBase.{JobBase}
+use Rattle.job_tables.specs.Inputs.{IsRead, clock_time, dataset_of}
 use Rattle.session_results.specs.declared.playing.SessionsDone.{SessionsDone}
 use Rattle.rehearsal.specs.Outcomes.{SessionsStop}
 use Rattle.rehearsal.specs.Played.{ArePlayed, AreUnplayed, IsBefore}
@@ -23,6 +25,7 @@ use Rattle.rehearsal.proofs.Left.{left_elsewhere}
 use Rattle.rehearsal.proofs.OneClient.{IsKept, IsOpen}
 use Rattle.rehearsal.proofs.Serving.{served}
 use Rattle.rehearsal.proofs.Unplayed.{unplayed_stop}
+use Rattle.rehearsal.proofs.Zips.{length_map}
 
 -- the laws of files that are kept back
 abbrev pub SourcesKept : Type 0
@@ -65,19 +68,16 @@ module _ (inlaw : SourcesKept) (outlaw : SinksKept) (emptied : AnswersEmptied) (
         (subst (λ names. AreEmpty held out_faults o.files names sinks) ea (empty_behind held out_faults o.files s.files answers sinks before.files empty))
         p.are_read p.count p.done_so refl
 
-    pub played_later : IsLater s t → IsLater s v
-    played_later l =
-        later_then s p.mid v (later_then s t p.mid l (inlaw requests p.kept t p.mid rd p.kept_in).later) (outlaw answers (map (kept_of held out_faults) p.ended) p.mid v ad p.kept_out).later
+  module _ (in_kept out_kept : List (Option (List ℕ) × ℕ)) (s t u v : Seen) (h : AnswersOpen answers s t) (kin : EachStep KeepsIn requests in_kept t u) (kout : EachStep KeepsOut answers out_kept u v) where
+    pub back_later : IsLater s t → IsLater s v
+    back_later l = later_then s u v (later_then s t u l (inlaw requests in_kept t u rd kin).later) (outlaw answers out_kept u v ad kout).later
 
-    pub played_others : KeepsOther s.files answers v.files
-    played_others =
-        let kin = inlaw requests p.kept t p.mid rd p.kept_in in
-        let kout = outlaw answers (map (kept_of held out_faults) p.ended) p.mid v ad p.kept_out in
-        other_then s.files p.mid.files v.files answers (emptied s.files p.mid.files answers (empties_kept s.files t.files p.mid.files answers h.files kin.files)) kout.others
+    pub back_others : KeepsOther s.files answers v.files
+    back_others =
+        other_then s.files u.files v.files answers (emptied s.files u.files answers (empties_kept s.files t.files u.files answers h.files (inlaw requests in_kept t u rd kin).files)) (outlaw answers out_kept u v ad kout).others
 
-    pub played_left : (n : List ℕ) → list_any (bytes_eq n) requests ≡ false → v.left n ≡ s.left n
-    played_left n e =
-        (outlaw answers (map (kept_of held out_faults) p.ended) p.mid v ad p.kept_out).left n ∙ left_elsewhere requests p.kept t p.mid p.kept_in n e ∙ h.left n
+    pub back_left : (n : List ℕ) → list_any (bytes_eq n) requests ≡ false → v.left n ≡ s.left n
+    back_left n e = (outlaw answers out_kept u v ad kout).left n ∙ left_elsewhere requests in_kept t u kin n e ∙ h.left n
 
   module _ {K : Type 0} (held : K → Option (List ℕ)) (out_faults : K → ℕ) (sinks : List (ClientAnswers K)) (s t v : Seen) (h : AnswersOpen answers s t) (p : AreUnplayed held out_faults requests answers sinks t v) where
     pub whole_unplayed : AreEmpty held out_faults s.files answers sinks → SessionsStop requests answers s v stops.NoMemory
@@ -85,14 +85,24 @@ module _ (inlaw : SourcesKept) (outlaw : SinksKept) (emptied : AnswersEmptied) (
         unplayed_stop held out_faults requests answers p.kept sinks s t p.mid v (open_from answers s s t (before_same s) h) empty
         (inlaw requests p.kept t p.mid rd p.kept_in) (outlaw answers (map (kept_of held out_faults) sinks) p.mid v ad p.kept_out) emptied
 
-    pub unplayed_later : IsLater s t → IsLater s v
-    unplayed_later l =
-        later_then s p.mid v (later_then s t p.mid l (inlaw requests p.kept t p.mid rd p.kept_in).later) (outlaw answers (map (kept_of held out_faults) sinks) p.mid v ad p.kept_out).later
-
-    pub unplayed_left : (n : List ℕ) → list_any (bytes_eq n) requests ≡ false → v.left n ≡ s.left n
-    unplayed_left n e =
-        (outlaw answers (map (kept_of held out_faults) sinks) p.mid v ad p.kept_out).left n ∙ left_elsewhere requests p.kept t p.mid p.kept_in n e ∙ h.left n
-
 pub if_some_then : {A : Type 0} {P Q : A → Type 0} (o : Option A) → ((x : A) → P x → Q x) → IfSome o P → IfSome o Q
 if_some_then None f h = tt
 if_some_then (Some x) f h = f x h
+
+-- what was read fits the job
+pub room_of : (job : RehearseJob) (input : JobBase) (files : Option Files) → IsRead files job input → 8 * input.dataset.capacity ≤ length input.words.words + input.words.spare
+unfolding dataset_of
+room_of job input files r = subst (λ (d : Dataset). 8 * d.capacity ≤ length input.words.words + input.words.spare) (sym r.dataset) r.room
+
+pub numbers_within : (job : RehearseJob) (input : JobBase) (files : Option Files) (requests : List (List ℕ)) → requests ≡ map request_file job.stems → IsRead files job input
+    → AllByRecursion (λ n. (0 < n) × (n ≤ length requests)) input.schedule.items
+numbers_within job input files requests e r =
+    subst (λ m. AllByRecursion (λ n. (0 < n) × (n ≤ m)) input.schedule.items) (sym (ap length e ∙ length_map request_file job.stems)) r.numbers
+
+pub if_ok_then : {A E : Type 0} {P Q : A → Type 0} (r : Result A E) → ((x : A) → P x → Q x) → IfOk r P → IfOk r Q
+if_ok_then (Ok x) f h = f x h
+if_ok_then (Err e) f h = tt
+
+pub if_err_then : {A E : Type 0} {P Q : E → Type 0} (r : Result A E) → ((e : E) → P e → Q e) → IfErr r P → IfErr r Q
+if_err_then (Ok x) f h = tt
+if_err_then (Err e) f h = f e h

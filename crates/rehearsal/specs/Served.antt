@@ -7,7 +7,12 @@ use Rattle.op_model.specs.declared.entry.Entry.{Entry}
 use Rattle.pcg_base.specs.declared.clock.Ticks.{Ticks}
 use Rattle.record_rows.specs.Readings.{Image}
 use Rattle.histories.specs.Histories.{EntriesOwned}
+use Rattle.hierarchy_build.specs.declared.errors.BuildError.{BuildError}
+use Rattle.hierarchy_build.specs.Built.{IsFull}
+use Rattle.pcg_words.specs.declared.job.RehearseJob.{RehearseJob}
 use Rattle.job_files.specs.Seen.{Seen}
+use Rattle.job_tables.specs.Inputs.{HasBase, HasSchedule, dataset_of}
+use Rattle.job_tables.specs.Stops.{AllRead}
 use Rattle.session_results.specs.declared.playing.SessionsDone.{SessionsDone}
 use Rattle.session_results.specs.Results.{SessionResult, faults_from, refusal_count, reply_count}
 use Rattle.rehearsal.specs.Clients.{AllClients, broke}
@@ -26,3 +31,13 @@ pub record AreServed (d : Dataset) (b : Base) (clock : Ticks) (schedule : List �
   pub faults_so : done.faults.items ≡ faults_from 1 results
   pub lines : done.lines ≡ reply_count results
   pub refused : done.refused ≡ refusal_count results
+
+-- what was read spells a base and a schedule, and the clients were served over it
+pub record IsServed (job : RehearseJob) (old new : Seen) (done : SessionsDone) : Type 0 where
+  pub base : Base
+  pub has_base : HasBase old.files job base
+  pub fits : (e : BuildError) → IsFull (dataset_of job) base e → ⊥
+  pub schedule : List ℕ
+  pub has_schedule : HasSchedule old.files job schedule
+  pub read : AllRead old.files new.left job
+  pub served : AreServed (dataset_of job) base job.clock schedule job.stems old new done
