@@ -7,12 +7,12 @@ use Rattle.made_files.specs.Files.{Seen, StopsSo}
 use Rattle.made_files.specs.declared.stops.MadeFile.TheVariants as made
 use Rattle.made_files.specs.declared.stops.MakeStop.{MakeStop}
 use Rattle.made_files.specs.declared.stops.MakeStop.TheVariants as makes
-use Rattle.pcg_serve.specs.declared.stops.Stop.{Stop}
-use Rattle.pcg_serve.specs.declared.stops.Stop.TheVariants as stops
+use Rattle.call_lines.specs.declared.stops.Stop.{Stop}
+use Rattle.call_lines.specs.declared.stops.Stop.TheVariants as stops
 use Rattle.pcg_serve.specs.Making.{stop_of}
-use Rattle.pcg_serve.specs.Printing.{Prints}
-use Rattle.pcg_serve.specs.Statuses.{status_of}
-use Rattle.pcg_serve.specs.Texts.{stop_text}
+use Rattle.call_lines.specs.Printing.{Prints}
+use Rattle.call_lines.specs.Statuses.{status_of}
+use Rattle.call_lines.specs.Texts.{stop_text}
 
 pub stop_known : (stop : MakeStop) → (status_of (stop_of stop) ≡ 4) ⊎ (status_of (stop_of stop) ≡ 5)
 stop_known (makes.Failed made.Supervoxels) = inl refl

@@ -1,6 +1,7 @@
 -- What a call of `make` promises.
 use Rattle.std.specs.Prelude.{◌≡◌, ◌*◌, ◌⊎◌, ℕ, List, length, Option}
 use Rattle.std.specs.Io.KnownBytes.{Appends}
+use Rattle.pcg_base.specs.Causes.{Rose}
 use Rattle.pcg_base.specs.Told.{Files}
 use Rattle.pcg_words.specs.declared.job.MakeJob.{MakeJob}
 use Rattle.made_input.specs.Texts.{input_of}
@@ -9,13 +10,12 @@ use Rattle.made_files.specs.Writing.{PutsAll, PutsSome}
 use Rattle.made_files.specs.declared.stops.MadeFile.TheVariants as made
 use Rattle.made_files.specs.declared.stops.MakeStop.{MakeStop}
 use Rattle.made_files.specs.declared.stops.MakeStop.TheVariants as makes
-use Rattle.pcg_serve.specs.declared.stops.FileName.TheVariants as files
-use Rattle.pcg_serve.specs.declared.stops.Stop.{Stop}
-use Rattle.pcg_serve.specs.declared.stops.Stop.TheVariants as stops
-use Rattle.pcg_serve.specs.Causes.{StatusSo}
-use Rattle.pcg_serve.specs.Printing.{Prints}
-use Rattle.pcg_serve.specs.Statuses.{status_of}
-use Rattle.pcg_serve.specs.Texts.{made_line, stop_text}
+use Rattle.call_lines.specs.declared.stops.FileName.TheVariants as files
+use Rattle.call_lines.specs.declared.stops.Stop.{Stop}
+use Rattle.call_lines.specs.declared.stops.Stop.TheVariants as stops
+use Rattle.call_lines.specs.Printing.{Prints}
+use Rattle.call_lines.specs.Statuses.{status_of}
+use Rattle.call_lines.specs.Texts.{made_line, stop_text}
 
 -- how it is told that files weren't made
 abbrev pub stop_of : MakeStop → Stop
@@ -32,8 +32,12 @@ made_text job = made_line (input_of (wish_of job)).edge_count (length job.stems 
 abbrev pub IsMade : MakeJob → Option Files → Option Files → Option (List ℕ) → Option (List ℕ) → Type 0
 IsMade job before after old new = PutsAll before after (files_of job) × Appends old new (made_text job)
 
+-- the status where all files were made: that of the output
+abbrev pub OutputSo : ℕ → ℕ → ℕ → Type 0
+OutputSo outs outs' status = (status ≡ 0) ⊎ ((status ≡ 4) × Rose outs outs')
+
 -- All files were made and no count rose, that line was printed, and the status is 0 or that of the output's fault. Or only some first ones were made and at most a front of the next one, for this reason, and the fault line alone was printed.
 abbrev pub MakeOutcome : MakeJob → Seen → Seen → Option (List ℕ) → Option (List ℕ) → ℕ → ℕ → ℕ → Type 0
 MakeOutcome job old new held held' outs outs' status =
-    (PutsAll old.files new.files (files_of job) × (new.writes ≡ old.writes) × Prints held held' outs outs' (made_text job) × StatusSo outs outs' 0 status)
+    (PutsAll old.files new.files (files_of job) × (new.writes ≡ old.writes) × Prints held held' outs outs' (made_text job) × OutputSo outs outs' status)
     ⊎ ((stop : MakeStop) × PutsSome old.files new.files (files_of job) × StopsSo job old new stop × (status ≡ status_of (stop_of stop)) × Prints held held' outs outs' (stop_text (stop_of stop)))

@@ -10,16 +10,16 @@ ghost use Rattle.made_files.specs.Writing.{KeepsBut};
 ghost use Rattle.made_input.specs.Texts.{input_of};
 ghost use Rattle.made_files.specs.Files.{wish_of};
 ghost use Rattle.request_lines.specs.Sent.{Puts};
-ghost use Rattle.pcg_serve.specs.Causes.{StatusSo};
+ghost use Rattle.pcg_serve.specs.Making.{OutputSo};
 ghost use Rattle.pcg_serve.specs.Making.{IsMade, MakeOutcome, made_text, stop_of};
-ghost use Rattle.pcg_serve.specs.Printing.{Prints};
-ghost use Rattle.pcg_serve.specs.Texts.{made_line, stop_text};
+ghost use Rattle.call_lines.specs.Printing.{Prints};
+ghost use Rattle.call_lines.specs.Texts.{made_line, stop_text};
 
-use crate::rehearsal::stopped;
-use crate::stops::{FileName, Stop};
+use call_lines::{FileName, Stop};
 use made_files::{MadeFile, MakeStop, make_files};
 use pcg_base::{Failed, Place, Sink};
 use pcg_words::MakeJob;
+use rehearsal::stopped;
 use request_lines::Page;
 use std::alloc::Global;
 
@@ -51,7 +51,7 @@ fn stop_of(stop: MakeStop) -> Stop
 }
 
 /// Puts the line of a call that made all files.
-#[tactic(auto, unfolding(crate::specs::Texts::made_line))]
+#[tactic(auto, unfolding(call_lines::specs::Texts::made_line))]
 fn put_made<K: Sink>(page: &mut Page, out: &mut K, edges: u64, lines: u64, supervoxels: u64)
     ensures { Puts (K.held out.old) (K.held out.new) (K.faults out.old) (K.faults out.new) page.old page.new (made_line edges lines supervoxels) }
 {
@@ -80,7 +80,7 @@ fn write_made<K: Sink>(edges: u64, lines: u64, supervoxels: u64, out: &mut K) ->
 fn finish_made<K: Sink>(job: &MakeJob, edges: u32, out: &mut K) -> u8
     requires few { (length job.now.stems ≤ 64) × (job.now.requests ≤ 100000) }
     requires edges { edges ≡ (input_of (wish_of job.now)).edge_count }
-    ensures status { StatusSo (K.faults out.old) (K.faults out.new) 0 result }
+    ensures status { OutputSo (K.faults out.old) (K.faults out.new) result }
     ensures line { Prints (K.held out.old) (K.held out.new) (K.faults out.old) (K.faults out.new) (made_text job.now) }
     ensures printed { result ≡ 0 → Appends (K.held out.old) (K.held out.new) (made_text job.now) }
     ensures flushed { result ≡ 0 → IsFlushed (K.held out.new) (K.flushed out.new) }

@@ -19,11 +19,7 @@ use session_results::SessionsDone;
 use std::alloc::Global;
 
 /// Goes through the steps of a rehearsal up to the end of its sessions.
-fn rehearse<P: Place>(
-    alloc: Global,
-    job: &RehearseJob,
-    place: &mut P,
-) -> Result<SessionsDone, Stop>
+fn rehearse<P: Place>(alloc: Global, job: &RehearseJob, place: &mut P) -> Result<SessionsDone, Stop>
 where
     P::In: Drop,
     P::Out: Drop,

@@ -1,5 +1,5 @@
 use Rattle.request_lines.proofs.Putting.{puts_then}
-use Rattle.pcg_serve.specs.Texts.{made_line}
+use Rattle.call_lines.specs.Texts.{made_line}
 use Rattle.pcg_serve.proofs.making.put_made.Goals as goal
 
 pub returns : goal.returns

@@ -1,8 +1,8 @@
 use Rattle.std.proofs.Common.{◌∙◌, ap, inl, inr, subst}
-use Rattle.pcg_serve.specs.Statuses.{status_of}
-use Rattle.pcg_serve.specs.Texts.{stop_text}
-use Rattle.pcg_serve.specs.Printing.{Prints}
-use Rattle.pcg_serve.specs.declared.stops.Stop.{Stop}
+use Rattle.call_lines.specs.Statuses.{status_of}
+use Rattle.call_lines.specs.Texts.{stop_text}
+use Rattle.call_lines.specs.Printing.{Prints}
+use Rattle.call_lines.specs.declared.stops.Stop.{Stop}
 use Rattle.pcg_serve.proofs.Made.{known_so, memory_told, never_done, stop_rose}
 use Rattle.pcg_serve.proofs.making.run_make.Goals as goal
 

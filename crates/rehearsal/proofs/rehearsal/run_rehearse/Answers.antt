@@ -17,5 +17,5 @@ returns-in-Ok-clause-outcome g c =
     let count : c.len.result ≡ length job.stems = search rules in
     came_out job S V done q (g.K.Sink.held c.args.out.now) (g.K.Sink.held c.finish.new.out) (g.K.Sink.faults c.args.out.now) (g.K.Sink.faults c.finish.new.out) c.finish.result
     (subst (λ n. Printed (g.K.Sink.held c.args.out.now) (g.K.Sink.held c.finish.new.out) (g.K.Sink.faults c.args.out.now) (g.K.Sink.faults c.finish.new.out)
-      (whole_text (dataset_of job) q.base q.served.log n done.faults.items done.lines done.refused) (status_for done.faults.items) c.finish.result) count
+    (whole_text (dataset_of job) q.base q.served.log n done.faults.items done.lines done.refused) (status_for done.faults.items) c.finish.result) count
     (c.finish.ensures.printed (dataset_of job) q.base q.served.log q.served.image))
