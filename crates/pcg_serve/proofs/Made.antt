@@ -20,33 +20,9 @@ stop_known (makes.Failed made.Edges) = inl refl
 stop_known (makes.Failed (made.Requests client)) = inl refl
 stop_known makes.NoMemory = inr refl
 
-pub known_so : (stop : MakeStop) (told : Stop) (status : ℕ) → told ≡ stop_of stop → status ≡ status_of told → (status ≡ 0) ⊎ (status ≡ 4) ⊎ (status ≡ 5)
-known_so stop told status t e = go (stop_known stop)
-  where
-    all : status ≡ status_of (stop_of stop)
-    all = e ∙ ap status_of t
-
-    go : (status_of (stop_of stop) ≡ 4) ⊎ (status_of (stop_of stop) ≡ 5) → (status ≡ 0) ⊎ (status ≡ 4) ⊎ (status ≡ 5)
-    go (inl k) = inr (inl (all ∙ k))
-    go (inr k) = inr (inr (all ∙ k))
-
-pub stop_rose : (job : MakeJob) (a b : Seen) (stop : MakeStop) (told : Stop) (status : ℕ) → told ≡ stop_of stop → status ≡ status_of told → StopsSo job a b stop → status ≡ 4 → Rose a.writes b.writes
-stop_rose job a b (makes.Failed file) told status t e h four = h.1
-stop_rose job a b makes.NoMemory told status t e h four =
-    let five : status ≡ 5 = e ∙ ap status_of t in
-    absurd (omega (arith, five, four))
-
-pub memory_told : (stop : MakeStop) (told : Stop) (status : ℕ) (a b : Option (List ℕ)) (i j : ℕ) → told ≡ stop_of stop → status ≡ status_of told → Prints a b i j (stop_text told) → status ≡ 5 → Prints a b i j (stop_text stops.NoMemory)
-memory_told (makes.Failed made.Supervoxels) told status a b i j t e p five =
-    let four : status ≡ 4 = e ∙ ap status_of t in
-    absurd (omega (arith, five, four))
-memory_told (makes.Failed made.Edges) told status a b i j t e p five =
-    let four : status ≡ 4 = e ∙ ap status_of t in
-    absurd (omega (arith, five, four))
-memory_told (makes.Failed (made.Requests client)) told status a b i j t e p five =
-    let four : status ≡ 4 = e ∙ ap status_of t in
-    absurd (omega (arith, five, four))
-memory_told makes.NoMemory told status a b i j t e p five = subst (λ s. Prints a b i j (stop_text s)) t p
+pub stop_rose : (job : MakeJob) (a b : Seen) (stop : MakeStop) (status : ℕ) → status ≡ status_of (stop_of stop) → StopsSo job a b stop → status ≡ 4 → Rose a.writes b.writes
+stop_rose job a b (makes.Failed file) status e h four = h.1
+stop_rose job a b makes.NoMemory status e h four = absurd (omega (arith, e, four))
 
 pub never_done : {A : Type 0} (stop : MakeStop) (told : Stop) (status : ℕ) → told ≡ stop_of stop → status ≡ status_of told → status ≡ 0 → A
 never_done {A = A} stop told status t e zero = go (stop_known stop)

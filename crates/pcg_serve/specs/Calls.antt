@@ -1,5 +1,5 @@
 -- What a call of the program comes to, by the mode of its job.
-use Rattle.std.specs.Prelude.{◌≡◌, ◌⊎◌, ⊤, ℕ, List, Option, Some, None}
+use Rattle.std.specs.Prelude.{◌≡◌, ◌≤◌, ◌⊎◌, ⊤, ℕ, List, Option, Some, None}
 use Rattle.pcg_base.specs.Causes.{Rose}
 use Rattle.pcg_base.specs.Told.{Files, KeepsFiles}
 use Rattle.pcg_words.specs.declared.job.Job.{Job}
@@ -41,6 +41,10 @@ IsJobDone (Some (job.Make found)) old new held held' = IsMade found old.files ne
 -- each count stood still
 abbrev pub IsFaultless : Seen → Seen → ℕ → ℕ → Type 0
 IsFaultless old new outs outs' = (new.reads ≡ old.reads) × (new.writes ≡ old.writes) × (outs' ≡ outs)
+
+-- neither count of the place fell
+abbrev pub NoneFell : Seen → Seen → Type 0
+NoneFell old new = (old.reads ≤ new.reads) × (old.writes ≤ new.writes)
 
 -- what a status tells: 1 comes just where the words spell no job, and 5 at any time
 abbrev pub JobTells : Option Job → Seen → Seen → ℕ → ℕ → ℕ → Type 0

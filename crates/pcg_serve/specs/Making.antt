@@ -2,7 +2,7 @@
 use Rattle.std.specs.Prelude.{◌≡◌, ◌*◌, ◌⊎◌, ℕ, List, length, Option}
 use Rattle.std.specs.Io.KnownBytes.{Appends}
 use Rattle.pcg_base.specs.Causes.{Rose}
-use Rattle.pcg_base.specs.Told.{Files}
+use Rattle.pcg_base.specs.Told.{AppendsFront, Files}
 use Rattle.pcg_words.specs.declared.job.MakeJob.{MakeJob}
 use Rattle.made_input.specs.Texts.{input_of}
 use Rattle.made_files.specs.Files.{Seen, StopsSo, files_of, wish_of}
@@ -32,12 +32,13 @@ made_text job = made_line (input_of (wish_of job)).edge_count (length job.stems 
 abbrev pub IsMade : MakeJob → Option Files → Option Files → Option (List ℕ) → Option (List ℕ) → Type 0
 IsMade job before after old new = PutsAll before after (files_of job) × Appends old new (made_text job)
 
--- the status where all files were made: that of the output
-abbrev pub OutputSo : ℕ → ℕ → ℕ → Type 0
-OutputSo outs outs' status = (status ≡ 0) ⊎ ((status ≡ 4) × Rose outs outs')
+-- the line was printed, or the output failed and has a front of it
+abbrev pub MadePrinted : Option (List ℕ) → Option (List ℕ) → ℕ → ℕ → List ℕ → ℕ → Type 0
+MadePrinted held held' outs outs' text status =
+    (Appends held held' text × (outs' ≡ outs) × (status ≡ 0)) ⊎ (AppendsFront held held' text × Rose outs outs' × (status ≡ 4))
 
--- All files were made and no count rose, that line was printed, and the status is 0 or that of the output's fault. Or only some first ones were made and at most a front of the next one, for this reason, and the fault line alone was printed.
+-- All files were made and no count rose, and the line about them was printed unless the output failed. Or only some first ones were made and at most a front of the next one, for this reason, and the fault line alone was printed.
 abbrev pub MakeOutcome : MakeJob → Seen → Seen → Option (List ℕ) → Option (List ℕ) → ℕ → ℕ → ℕ → Type 0
 MakeOutcome job old new held held' outs outs' status =
-    (PutsAll old.files new.files (files_of job) × (new.writes ≡ old.writes) × Prints held held' outs outs' (made_text job) × OutputSo outs outs' status)
+    (PutsAll old.files new.files (files_of job) × (new.writes ≡ old.writes) × MadePrinted held held' outs outs' (made_text job) status)
     ⊎ ((stop : MakeStop) × PutsSome old.files new.files (files_of job) × StopsSo job old new stop × (status ≡ status_of (stop_of stop)) × Prints held held' outs outs' (stop_text (stop_of stop)))

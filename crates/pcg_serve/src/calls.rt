@@ -3,9 +3,9 @@
 ghost use Rattle.std.specs.Prelude.{◌≡◌, ◌≤◌, ◌⊎◌, ℕ, Some};
 ghost use Rattle.pcg_base.specs.Told.{IsFlushed};
 ghost use Rattle.pcg_words.specs.Words.{MeetsMode, job_of};
-ghost use Rattle.job_files.specs.Seen.{IsLater, seen};
+ghost use Rattle.job_files.specs.Seen.{seen};
 ghost use Rattle.rehearsal.specs.Exact.{IsQuiet};
-ghost use Rattle.pcg_serve.specs.Calls.{IsFaultless, IsJobDone, IsJobDue, IsJobFine, JobOutcome, JobTells, KeepsJobOthers};
+ghost use Rattle.pcg_serve.specs.Calls.{IsFaultless, IsJobDone, IsJobDue, IsJobFine, JobOutcome, JobTells, KeepsJobOthers, NoneFell};
 
 use crate::making::run_make;
 use call_lines::Stop;
@@ -41,26 +41,21 @@ where
         → IsJobFine (P.files place.old) (job_of words.now) → (result ≡ 0) ⊎ (result ≡ 5) }
     // whatever it answers
     ensures others { KeepsJobOthers (job_of words.now) (P.files place.old) (P.files place.new) }
-    ensures later { IsLater (seen P.files P.left_at P.read_faults P.write_faults P.counts place.old) (seen P.files P.left_at P.read_faults P.write_faults P.counts place.new) }
+    ensures later { NoneFell (seen P.files P.left_at P.read_faults P.write_faults P.counts place.old) (seen P.files P.left_at P.read_faults P.write_faults P.counts place.new) }
     ensures output { K.faults out.old ≤ K.faults out.new }
 {
     do_words(alloc, words, place, out)
 }
 
 /// Does the job of the words.
-fn do_words<P: Place, K: Sink>(
-    alloc: Global,
-    words: &[Vec<u8>],
-    place: &mut P,
-    out: &mut K,
-) -> u8
+fn do_words<P: Place, K: Sink>(alloc: Global, words: &[Vec<u8>], place: &mut P, out: &mut K) -> u8
 where
     P::In: Drop,
     P::Out: Drop,
     ensures outcome { JobOutcome (job_of words.now) (seen P.files P.left_at P.read_faults P.write_faults P.counts place.old) (seen P.files P.left_at P.read_faults P.write_faults P.counts place.new) (K.held out.old) (K.held out.new) (K.faults out.old) (K.faults out.new) result }
     ensures flushed { result ≡ 0 → IsFlushed (K.held out.new) (K.flushed out.new) }
     ensures others { KeepsJobOthers (job_of words.now) (P.files place.old) (P.files place.new) }
-    ensures later { IsLater (seen P.files P.left_at P.read_faults P.write_faults P.counts place.old) (seen P.files P.left_at P.read_faults P.write_faults P.counts place.new) }
+    ensures later { NoneFell (seen P.files P.left_at P.read_faults P.write_faults P.counts place.old) (seen P.files P.left_at P.read_faults P.write_faults P.counts place.new) }
     ensures output { K.faults out.old ≤ K.faults out.new }
 {
     match read_words(alloc, words) {
@@ -79,7 +74,7 @@ where
     ensures outcome { JobOutcome (Some job.now) (seen P.files P.left_at P.read_faults P.write_faults P.counts place.old) (seen P.files P.left_at P.read_faults P.write_faults P.counts place.new) (K.held out.old) (K.held out.new) (K.faults out.old) (K.faults out.new) result }
     ensures flushed { result ≡ 0 → IsFlushed (K.held out.new) (K.flushed out.new) }
     ensures others { KeepsJobOthers (Some job.now) (P.files place.old) (P.files place.new) }
-    ensures later { IsLater (seen P.files P.left_at P.read_faults P.write_faults P.counts place.old) (seen P.files P.left_at P.read_faults P.write_faults P.counts place.new) }
+    ensures later { NoneFell (seen P.files P.left_at P.read_faults P.write_faults P.counts place.old) (seen P.files P.left_at P.read_faults P.write_faults P.counts place.new) }
     ensures output { K.faults out.old ≤ K.faults out.new }
 {
     match job {

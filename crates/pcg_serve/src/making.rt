@@ -10,8 +10,7 @@ ghost use Rattle.made_files.specs.Writing.{KeepsBut};
 ghost use Rattle.made_input.specs.Texts.{input_of};
 ghost use Rattle.made_files.specs.Files.{wish_of};
 ghost use Rattle.request_lines.specs.Sent.{Puts};
-ghost use Rattle.pcg_serve.specs.Making.{OutputSo};
-ghost use Rattle.pcg_serve.specs.Making.{IsMade, MakeOutcome, made_text, stop_of};
+ghost use Rattle.pcg_serve.specs.Making.{MadePrinted, MakeOutcome, made_text, stop_of};
 ghost use Rattle.call_lines.specs.Printing.{Prints};
 ghost use Rattle.call_lines.specs.Texts.{made_line, stop_text};
 
@@ -80,11 +79,8 @@ fn write_made<K: Sink>(edges: u64, lines: u64, supervoxels: u64, out: &mut K) ->
 fn finish_made<K: Sink>(job: &MakeJob, edges: u32, out: &mut K) -> u8
     requires few { (length job.now.stems ≤ 64) × (job.now.requests ≤ 100000) }
     requires edges { edges ≡ (input_of (wish_of job.now)).edge_count }
-    ensures status { OutputSo (K.faults out.old) (K.faults out.new) result }
-    ensures line { Prints (K.held out.old) (K.held out.new) (K.faults out.old) (K.faults out.new) (made_text job.now) }
-    ensures printed { result ≡ 0 → Appends (K.held out.old) (K.held out.new) (made_text job.now) }
+    ensures printed { MadePrinted (K.held out.old) (K.held out.new) (K.faults out.old) (K.faults out.new) (made_text job.now) result }
     ensures flushed { result ≡ 0 → IsFlushed (K.held out.new) (K.flushed out.new) }
-    ensures still { result ≡ 0 → K.faults out.new ≡ K.faults out.old }
     ensures later { K.faults out.old ≤ K.faults out.new }
 {
     let lines = job.stems.list.len() as u64 * job.requests;
@@ -102,12 +98,7 @@ fn finish_made<K: Sink>(job: &MakeJob, edges: u32, out: &mut K) -> u8
 /// - 5: memory ran out.
 pub fn run_make<P: Place, K: Sink>(alloc: Global, job: &MakeJob, place: &mut P, out: &mut K) -> u8
     requires { IsMake job.now }
-    ensures done { result ≡ 0 → IsMade job.now (P.files place.old) (P.files place.new) (K.held out.old) (K.held out.new) }
     ensures flushed { result ≡ 0 → IsFlushed (K.held out.new) (K.flushed out.new) }
-    ensures still { result ≡ 0 → (P.write_faults place.new ≡ P.write_faults place.old) × (K.faults out.new ≡ K.faults out.old) }
-    ensures known { (result ≡ 0) ⊎ (result ≡ 4) ⊎ (result ≡ 5) }
-    ensures write { result ≡ 4 → Rose (P.write_faults place.old) (P.write_faults place.new) ⊎ Rose (K.faults out.old) (K.faults out.new) }
-    ensures no_memory_line { result ≡ 5 → Prints (K.held out.old) (K.held out.new) (K.faults out.old) (K.faults out.new) (stop_text Stop.NoMemory) }
     ensures outcome { MakeOutcome job.now (record { files = P.files place.old; writes = P.write_faults place.old; counts = P.counts place.old }) (record { files = P.files place.new; writes = P.write_faults place.new; counts = P.counts place.new }) (K.held out.old) (K.held out.new) (K.faults out.old) (K.faults out.new) result }
     ensures others { KeepsBut (files_of job.now) (P.files place.old) (P.files place.new) }
     ensures reads { P.read_faults place.new ≡ P.read_faults place.old }
