@@ -1,6 +1,6 @@
 -- Files that are opened, sessions that are played, and files that are kept back, together.
 use Rattle.std.proofs.Common.{◌≡◌, ◌≤◌, ◌<◌, ℕ, ◌+◌, ◌*◌, List, [], ◌∷◌, map, length, Option, Some, None, IsTrue, bytes_eq, false, refl, sym, ◌∙◌, ap, subst, arith}
-use Rattle.std.specs.Prelude.{Err, IfErr, IfOk, IfSome, Ok, Result}
+use Rattle.std.specs.Prelude.{Err, IfErr, IfNone, IfOk, IfSome, Ok, Result}
 use Rattle.std.specs.List.{AllByRecursion, list_any}
 use Rattle.op_model.specs.declared.base.Dataset.{Dataset}
 use Rattle.op_model.specs.declared.base.Base.{Base}
@@ -9,8 +9,9 @@ use Rattle.pcg_base.specs.Told.{Files, KeepsFiles}
 use Rattle.pcg_words.specs.declared.job.RehearseJob.{RehearseJob}
 use Rattle.pcg_words.specs.Job.{all_differ, answer_file, request_file}
 use Rattle.client_answers.specs.declared.answers.ClientAnswers.{ClientAnswers}
-use Rattle.job_files.specs.Seen.{EachStep, IsLater, KeepsIn, KeepsOut, Seen}
-use Rattle.job_files.specs.Clients.{AnswersOpen, AreEmpty, AreOpened, Empties, kept_of}
+use Rattle.job_files.specs.Seen.{EachStep, IsLater, IsSame, KeepsIn, KeepsOut, Seen}
+use Rattle.stream_lines.specs.declared.reading.StreamLines.{StreamLines}
+use Rattle.job_files.specs.Clients.{AnswersOpen, AreEmpty, AreOpened, Empties, ReadsAll, ReadsSome, kept_of}
 use Rattle.job_files.specs.Kept.{AreKeptIn, AreKeptOut, KeepsOther}
 use Rattle.job_files.proofs.Counting.{later_then}
 use Rattle.call_lines.specs.declared.stops.Stop.TheVariants as stops
@@ -20,7 +21,7 @@ use Rattle.session_results.specs.declared.playing.SessionsDone.{SessionsDone}
 use Rattle.rehearsal.specs.Outcomes.{SessionsStop}
 use Rattle.rehearsal.specs.Played.{ArePlayed, AreUnplayed, IsBefore}
 use Rattle.rehearsal.specs.Served.{AreServed}
-use Rattle.rehearsal.proofs.Emptied.{empties_behind, empties_kept, empty_behind, opened_behind, other_then}
+use Rattle.rehearsal.proofs.Emptied.{empties_behind, empties_kept, empty_behind, opened_behind, other_kept, other_then, same_keeps}
 use Rattle.rehearsal.proofs.Left.{left_elsewhere}
 use Rattle.rehearsal.proofs.OneClient.{IsKept, IsOpen}
 use Rattle.rehearsal.proofs.Serving.{served}
@@ -45,12 +46,12 @@ open_from answers o s t b h = record {
   counts = λ name. h.counts name ∙ b.counts name;
 }
 
-pub before_same : (s : Seen) → IsBefore s s
+keeps : (f : Option Files) → KeepsFiles f f
+keeps None = tt
+keeps (Some m) = refl
+
+before_same : (s : Seen) → IsBefore s s
 before_same s = record { files = keeps s.files; reads = refl; writes = refl; counts = λ name. refl }
-  where
-    keeps : (f : Option Files) → KeepsFiles f f
-    keeps None = tt
-    keeps (Some m) = refl
 
 module _ (inlaw : SourcesKept) (outlaw : SinksKept) (emptied : AnswersEmptied) (requests answers : List (List ℕ)) (rd : IsTrue (all_differ requests)) (ad : IsTrue (all_differ answers)) where
   module _ {S K : Type 0} (left : S → Option (List ℕ)) (faults : S → ℕ) (held : K → Option (List ℕ)) (out_faults : K → ℕ) (d : Dataset) (b : Base) (clock : Ticks) (schedule : List ℕ) (stems : List (List ℕ))
@@ -106,3 +107,41 @@ if_ok_then (Err e) f h = tt
 pub if_err_then : {A E : Type 0} {P Q : E → Type 0} (r : Result A E) → ((e : E) → P e → Q e) → IfErr r P → IfErr r Q
 if_err_then (Ok x) f h = tt
 if_err_then (Err e) f h = f e h
+
+pub if_none_then : {A : Type 0} {P Q : Type 0} (o : Option A) → (P → Q) → IfNone o P → IfNone o Q
+if_none_then None f h = f h
+if_none_then (Some x) f h = tt
+
+-- all was kept back where memory ran out over the lines, or behind them
+module _ {S K : Type 0} (left : S → Option (List ℕ)) (held : K → Option (List ℕ)) (faults : K → ℕ) (requests answers rs ns : List (List ℕ)) (sources : List S) where
+  pub unplayed : (sinks ended : List (ClientAnswers K)) (s t u : Seen) → rs ≡ requests → ns ≡ answers → ended ≡ sinks → ReadsSome left rs sources s t → EachStep KeepsOut ns (map (kept_of held faults) ended) t u
+      → AreUnplayed held faults requests answers sinks s u
+  unplayed sinks ended s t u er en es read kept = record {
+    kept = read.0;
+    mid = t;
+    kept_in = subst (λ names. EachStep KeepsIn names read.0 s t) er read.2;
+    kept_out = subst (λ xs. EachStep KeepsOut answers (map (kept_of held faults) xs) t u) es (subst (λ names. EachStep KeepsOut names (map (kept_of held faults) ended) t u) en kept);
+  }
+
+  pub unread : (read : List StreamLines) (sinks ended : List (ClientAnswers K)) (s t u : Seen) → rs ≡ requests → ns ≡ answers → ended ≡ sinks → ReadsAll left rs sources read s t → EachStep KeepsOut ns (map (kept_of held faults) ended) t u
+      → AreUnplayed held faults requests answers sinks s u
+  unread read sinks ended s t u er en es all kept = record {
+    kept = all.0;
+    mid = t;
+    kept_in = subst (λ names. EachStep KeepsIn names all.0 s t) er all.2;
+    kept_out = subst (λ xs. EachStep KeepsOut answers (map (kept_of held faults) xs) t u) es (subst (λ names. EachStep KeepsOut names (map (kept_of held faults) ended) t u) en kept);
+  }
+
+-- answers that are opened behind requests
+pub answers_behind : (answers ns : List (List ℕ)) (s t u : Seen) → ns ≡ answers → IsSame s t → AnswersOpen ns t u → AnswersOpen answers s u
+answers_behind answers ns s t u e same h = record {
+  files = subst (λ names. Empties s.files names u.files) e (empties_behind s.files t.files u.files ns same.files h.files);
+  left = λ name. h.left name ∙ same.left name;
+  reads = h.reads ∙ same.reads;
+  writes = h.writes ∙ same.writes;
+  counts = λ name. h.counts name ∙ same.counts name;
+}
+
+-- nothing was opened
+pub unopened : (requests answers : List (List ℕ)) (s : Seen) → SessionsStop requests answers s s stops.NoMemory
+unopened requests answers s = (same_keeps s.files s.files answers (keeps s.files), other_kept s.files s.files answers (keeps s.files))

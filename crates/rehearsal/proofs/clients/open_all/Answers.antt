@@ -1,12 +1,13 @@
 use Rattle.std.proofs.Common.{◌≡◌, ◌≤◌, ◌∙◌, ℕ, List, true, length, map, subst, sym, ap, arith, rules, IsTrue, Option}
 use Rattle.std.specs.List.{AllByRecursion}
 use Rattle.job_files.specs.Seen.{EachStep, KeepsIn, Seen, seen}
-use Rattle.job_files.specs.Clients.{AnswersShut, AreEmpty, AreOpened}
-use Rattle.job_files.proofs.Counting.{all_then}
-use Rattle.rehearsal.proofs.Emptied.{empty_behind}
+use Rattle.job_files.specs.Clients.{AnswersShut, AreEmpty, AreOpened, RequestsShut}
+use Rattle.job_files.proofs.Counting.{all_then, later_then}
+use Rattle.rehearsal.proofs.Emptied.{empty_behind, requests_stop}
 use Rattle.rehearsal.proofs.Left.{left_elsewhere}
 use Rattle.rehearsal.proofs.Serving.{opened_count}
 use Rattle.rehearsal.proofs.Unplayed.{answers_stop, shut_left}
+use Rattle.rehearsal.proofs.Whole.{answers_behind}
 use Rattle.rehearsal.proofs.clients.open_all.Goals as goal
 
 pub keep_requests-requires-clause-enough : goal.keep_requests-requires-clause-enough
@@ -68,3 +69,35 @@ returns-in-Err-open_answers-clause-elsewhere g c = λ n away.
     let xs : List (Option (List ℕ) × ℕ) = map (λ x. (g.P.In.Source.left x, g.P.In.Source.faults x)) c.in-Ok.sources.items in
     left_elsewhere rs xs U V (subst (λ ns. EachStep KeepsIn ns xs U V) f c.keep_requests.ensures.each) n away
     ∙ shut_left c.as_slice-2.result.now T U c.in-Err-open_answers.fault c.in-Err-open_answers.ensures.shut n ∙ c.in-Ok.ensures.same.left n
+
+pub returns-in-Err-clause-stop : goal.returns-in-Err-clause-stop
+returns-in-Err-clause-stop g c =
+    let S : Seen = seen g.P.Place.files g.P.Place.left_at g.P.Place.read_faults g.P.Place.write_faults g.P.Place.counts c.args.place.now in
+    let T : Seen = seen g.P.Place.files g.P.Place.left_at g.P.Place.read_faults g.P.Place.write_faults g.P.Place.counts c.open_requests.new.place in
+    let e : c.as_slice.result.now ≡ c.args.files.now.requests = search rules in
+    requests_stop c.args.files.now.requests c.args.files.now.answers S T c.in-Err.fault c.no_requests.result (subst (λ ns. RequestsShut ns S T c.in-Err.fault) e c.in-Err.ensures.shut) c.no_requests.ensures.failed c.no_requests.ensures.memory
+
+pub returns-in-Ok-open_answers-clause-open : goal.returns-in-Ok-open_answers-clause-open
+returns-in-Ok-open_answers-clause-open g c =
+    let h : c.as_slice-2.result.now ≡ c.args.files.now.answers = search rules in
+    answers_behind c.args.files.now.answers c.as_slice-2.result.now (seen g.P.Place.files g.P.Place.left_at g.P.Place.read_faults g.P.Place.write_faults g.P.Place.counts c.args.place.now)
+    (seen g.P.Place.files g.P.Place.left_at g.P.Place.read_faults g.P.Place.write_faults g.P.Place.counts c.open_requests.new.place) (seen g.P.Place.files g.P.Place.left_at g.P.Place.read_faults g.P.Place.write_faults g.P.Place.counts c.open_answers.new.place)
+    h c.in-Ok.ensures.same c.in-Ok-open_answers.ensures.open
+
+pub returns-in-Ok-open_answers-clause-later : goal.returns-in-Ok-open_answers-clause-later
+returns-in-Ok-open_answers-clause-later g c =
+    later_then (seen g.P.Place.files g.P.Place.left_at g.P.Place.read_faults g.P.Place.write_faults g.P.Place.counts c.args.place.now)
+    (seen g.P.Place.files g.P.Place.left_at g.P.Place.read_faults g.P.Place.write_faults g.P.Place.counts c.open_requests.new.place) (seen g.P.Place.files g.P.Place.left_at g.P.Place.read_faults g.P.Place.write_faults g.P.Place.counts c.open_answers.new.place)
+    c.open_requests.ensures.later c.open_answers.ensures.later
+
+pub returns-in-Err-open_answers-clause-later : goal.returns-in-Err-open_answers-clause-later
+returns-in-Err-open_answers-clause-later g c =
+    let rs = c.args.files.now.requests in
+    let S : Seen = seen g.P.Place.files g.P.Place.left_at g.P.Place.read_faults g.P.Place.write_faults g.P.Place.counts c.args.place.now in
+    let T : Seen = seen g.P.Place.files g.P.Place.left_at g.P.Place.read_faults g.P.Place.write_faults g.P.Place.counts c.open_requests.new.place in
+    let U : Seen = seen g.P.Place.files g.P.Place.left_at g.P.Place.read_faults g.P.Place.write_faults g.P.Place.counts c.open_answers.new.place in
+    let V : Seen = seen g.P.Place.files g.P.Place.left_at g.P.Place.read_faults g.P.Place.write_faults g.P.Place.counts c.keep_requests.new.place in
+    let f : c.as_slice-in-Err-open_answers.result.now ≡ rs = search rules in
+    let xs : List (Option (List ℕ) × ℕ) = map (λ x. (g.P.In.Source.left x, g.P.In.Source.faults x)) c.in-Ok.sources.items in
+    let kept = c.sources_are_kept.ensures rs xs U V c.requires.differ (subst (λ ns. EachStep KeepsIn ns xs U V) f c.keep_requests.ensures.each) in
+    later_then S T V c.open_requests.ensures.later (later_then T U V c.open_answers.ensures.later kept.later)

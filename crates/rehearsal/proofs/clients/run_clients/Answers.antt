@@ -15,7 +15,7 @@ use Rattle.rehearsal.proofs.Apart.{names_in, names_out}
 use Rattle.rehearsal.proofs.Emptied.{fresh_each, unfailed_each}
 use Rattle.rehearsal.proofs.Serving.{empty_count, opened_count}
 use Rattle.rehearsal.proofs.Unplayed.{stop_others}
-use Rattle.rehearsal.proofs.Whole.{back_later, back_left, back_others, numbers_within, room_of, whole_served, whole_unplayed}
+use Rattle.rehearsal.proofs.Whole.{back_later, back_left, back_others, numbers_within, room_of, unopened, whole_served, whole_unplayed}
 use Rattle.rehearsal.proofs.Zips.{length_map}
 use Rattle.rehearsal.proofs.clients.run_clients.Goals as goal
 
@@ -171,3 +171,29 @@ returns-clause-others g c =
     let p = c.in-None.ensures.none in
     let outs = map (kept_of g.P.Out.Sink.held g.P.Out.Sink.faults) c.in-Ok-open_all.opened.answers.items in
     subst (λ ns. KeepsOther S.files ns V.files) c.in-Ok.ensures.answers (back_others c.sources_are_kept.ensures c.sinks_are_kept.ensures c.answers_are_emptied.ensures rs ns rd ad p.kept outs S T p.mid V c.in-Ok-open_all.ensures.open p.kept_in p.kept_out)
+
+pub returns-in_default-clause-stop : goal.returns-in_default-clause-stop
+returns-in_default-clause-stop g c =
+    unopened (map request_file c.args.job.now.stems) (map answer_file c.args.job.now.stems) (seen g.P.Place.files g.P.Place.left_at g.P.Place.read_faults g.P.Place.write_faults g.P.Place.counts c.args.place.now)
+
+pub returns-in_default-clause-others : goal.returns-in_default-clause-others
+returns-in_default-clause-others g c =
+    (unopened (map request_file c.args.job.now.stems) (map answer_file c.args.job.now.stems) (seen g.P.Place.files g.P.Place.left_at g.P.Place.read_faults g.P.Place.write_faults g.P.Place.counts c.args.place.now)).1
+
+pub returns-in-Err-clause-stop : goal.returns-in-Err-clause-stop
+returns-in-Err-clause-stop g c =
+    let S : Seen = seen g.P.Place.files g.P.Place.left_at g.P.Place.read_faults g.P.Place.write_faults g.P.Place.counts c.args.place.now in
+    let V : Seen = seen g.P.Place.files g.P.Place.left_at g.P.Place.read_faults g.P.Place.write_faults g.P.Place.counts c.open_all.new.place in
+    subst (λ ns. SessionsStop (map request_file c.args.job.now.stems) ns S V c.in-Err.stop) c.in-Ok.ensures.answers (subst (λ rs. SessionsStop rs c.in-Ok.files.answers S V c.in-Err.stop) c.in-Ok.ensures.requests c.in-Err.ensures.stop)
+
+pub returns-in-Err-clause-elsewhere : goal.returns-in-Err-clause-elsewhere
+returns-in-Err-clause-elsewhere g c = λ n away. c.open_all.ensures.elsewhere n (subst (λ ns. list_any (bytes_eq n) ns ≡ false) (sym c.in-Ok.ensures.requests) away)
+
+pub serve_all-requires-clause-image : goal.serve_all-requires-clause-image
+serve_all-requires-clause-image g c κs within =
+    let r = c.requires.input.1 in
+    (r.base, clock_time c.args.job.now.clock 0, subst (λ (x : Dataset). Image x r.base (ingested x r.base (clock_time c.args.job.now.clock 0)) c.args.input.words.words) (sym r.dataset) r.image)
+
+pub serve_all-requires-clause-names : goal.serve_all-requires-clause-names
+serve_all-requires-clause-names g c κs within =
+    ap length c.in-Ok.ensures.answers ∙ length_map answer_file c.args.job.now.stems ∙ sym (ap length c.in-Ok.ensures.requests ∙ length_map request_file c.args.job.now.stems)
