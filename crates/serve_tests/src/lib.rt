@@ -12,7 +12,9 @@
 //! - `session_tests`: the lines of a client's stream, given one by one from reads of several sizes, and
 //!   a stream that breaks off
 //! - `make_tests`: files that are made from a number, and one that fails
-//! - `samples`, `calls`: two tables, requests, and what a call makes of them
+//! - `edit_tests`: sessions of one to three clients that edit, word by word: merges, splits, undos and
+//!   redos, refusals, a schedule, a reply that isn't written, and long lines
+//! - `samples`, `calls`, `edit_sessions`: two tables, requests, and what a call makes of them
 //! - `shut_place`: a place that opens nothing for writing
 #![tactic(auto)]
 
@@ -20,6 +22,10 @@
 mod calls;
 #[cfg(test)]
 mod device_tests;
+#[cfg(test)]
+mod edit_sessions;
+#[cfg(test)]
+mod edit_tests;
 #[cfg(test)]
 mod make_tests;
 #[cfg(test)]

@@ -59,7 +59,7 @@ const LINES: [(&str, &str); 17] = [
     ),
     (
         "{\"do\":\"undo\",\"op\":1}",
-        "{\"ok\":false,\"refusal\":\"NotBuilt\"}",
+        "{\"ok\":false,\"op\":1,\"refusal\":\"NoSuchOp\",\"seen\":1}",
     ),
     (
         "{\"do\":\"changes\",\"root\":\"216172782113783809\"}",

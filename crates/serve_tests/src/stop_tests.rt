@@ -1,4 +1,4 @@
-//! What a call prints that stops before its sessions, or whose requests are too long.
+//! What a call prints that stops before its sessions.
 
 use crate::calls::{Outside, call, call_with, stops_so, usual, words_of};
 use crate::samples::WORDS;
@@ -77,8 +77,8 @@ fn words(rt: HostRuntime) -> Result<(), Fail> {
         ),
         (
             "rehearse --bits 8 --grid 2,1,1 --supervoxels supervoxels.csv --edges edges.csv --merge-affinity 1 --clock 1000,10 first second",
-            8,
-            b"{\"fault\":\"NotBuilt\"}\n",
+            2,
+            b"{\"client\":2,\"fault\":\"ReadFault\",\"file\":\"requests\"}\n",
         ),
         (
             "rehearse --bits 8 --grid 2,1,1 --supervoxels supervoxels.csv --edges edges.csv --merge-affinity 1 --records 23 --clock 1000,10 first",
@@ -119,23 +119,6 @@ fn a_chunk_without_numbers(rt: HostRuntime) -> Result<(), Fail> {
     };
     let line = b"{\"fault\":\"IdsSpent\",\"layer\":3,\"x\":0,\"y\":0,\"z\":0}\n";
     assert!(rt; stops_so(&call_with(rt.alloc(), words, &outside)?, 6, line));
-    Ok(())
-}
-
-#[test]
-fn requests_too_long(rt: HostRuntime) -> Result<(), Fail> {
-    let requests = vec![in rt.alloc(); b'\n'; 65537]?;
-    let outside = Outside {
-        requests: requests.as_slice(),
-        ..usual()
-    };
-    let ran = call(rt.alloc(), &outside)?;
-    assert_eq!(rt; ran.status, 8);
-    assert_eq!(rt; ran.answers.as_slice(), b"".as_slice());
-    assert_eq!(rt;
-        ran.out.as_slice(),
-        b"{\"fault\":\"NotBuilt\"}\n".as_slice()
-    );
     Ok(())
 }
 
