@@ -339,7 +339,7 @@ fn a_merge_of_pairs(rt: HostRuntime) -> Result<(), Fail> {
 /// A request of so many bytes, of which spaces fill the end.
 fn padded(alloc: Global, bytes: usize) -> Result<String, Fail> {
     let mut line = String::from_str(alloc, "{\"do\":\"root\",\"sv\":\"72057594037927937\"}")?;
-    while line.len() < bytes {
+    for _ in line.len()..bytes {
         line.push_str(" ")?;
     }
     Ok(line)
