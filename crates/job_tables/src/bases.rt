@@ -126,12 +126,12 @@ fn words_of(alloc: Global, dataset: &Dataset, base: &Base, clock: &Ticks) -> Res
 }
 
 /// What the texts of a job make. The tables are looked into before the schedule, and the schedule
-/// before the base's records are made.
-pub fn make_input(alloc: Global, job: &RehearseJob, texts: &Texts) -> Result<JobBase, Stop>
+/// before the base's records are made. The texts are let go before that.
+pub fn make_input(alloc: Global, job: &RehearseJob, texts: Texts) -> Result<JobBase, Stop>
     requires ranges { RehearseRanges job.now }
-    requires short { IsShort (schedule_text texts.now) }
-    ensures made { IfOk result (λ r. IsMade job.now texts.now r) }
-    ensures stop { IfErr result (λ stop. MakesStop job.now texts.now stop) }
+    requires short { IsShort (schedule_text texts) }
+    ensures made { IfOk result (λ r. IsMade job.now texts r) }
+    ensures stop { IfErr result (λ stop. MakesStop job.now texts stop) }
 {
     let dataset = dataset_of(job);
     let base = match base_of(alloc, &dataset, &texts.tables) {
@@ -142,6 +142,7 @@ pub fn make_input(alloc: Global, job: &RehearseJob, texts: &Texts) -> Result<Job
         Ok(schedule) => schedule,
         Err(stop) => return Err(stop),
     };
+    drop(texts);
     match words_of(alloc, &dataset, &base, &job.clock) {
         Ok(words) => Ok(JobBase {
             dataset,

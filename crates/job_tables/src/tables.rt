@@ -55,5 +55,5 @@ pub fn read_input<P: Place>(
         Ok(texts) => texts,
         Err(stop) => return Err(stop),
     };
-    make_input(alloc, job, &texts)
+    make_input(alloc, job, texts)
 }
