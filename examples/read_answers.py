@@ -34,7 +34,7 @@ def tell_log(bits, lines):
 
 
 def tell_answers(bits, requests, replies):
-    """Prints the supervoxels of each root that was answered, and each refusal."""
+    """Prints each refusal, and each root that was answered with the supervoxels it was answered for."""
     of_root = {}
     for request, reply in zip(requests, replies):
         reply = json.loads(reply)
@@ -42,9 +42,9 @@ def tell_answers(bits, requests, replies):
             print(f"{request}: {reply['refusal']}")
         elif "root" in reply:
             asked = json.loads(request)["sv"]
-            of_root.setdefault(int(reply["root"]), []).append(int(asked))
+            of_root.setdefault(int(reply["root"]), set()).add(int(asked))
     for root, supervoxels in sorted(of_root.items()):
-        print(f"root {root} has {len(supervoxels)} supervoxels")
+        print(f"root {root} was answered for {len(supervoxels)} supervoxels")
         for v in sorted(supervoxels):
             print(f"  {spelled(bits, v)}")
 
