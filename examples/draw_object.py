@@ -1,9 +1,10 @@
 """Draws the octree of an object and its history as an SVG, from the two tables and the log.
 
-usage: draw_object.py BITS NX,NY,NZ SUPERVOXELS EDGES LOG SUPERVOXEL > object.svg
+usage: draw_object.py BITS NX,NY,NZ SUPERVOXELS EDGES LOG SUPERVOXEL [AT] > object.svg
 
-The octree is that of the root that SUPERVOXEL has now. The history is that root and its ancestors:
-an entry links a root that it retired to a root that it made if they share a supervoxel.
+LOG is what pcg printed. The octree is that of the root that SUPERVOXEL has at the time AT, or after the
+last entry. The history is that root and its ancestors: an entry links a root that it retired to a root
+that it made if they share a supervoxel.
 
 The nodes are found here once more, by the rules of docs/DEFINITIONS.md and without the program: each
 layer's nodes are the components of active edges inside each chunk, and new ones get the next numbers of
@@ -160,17 +161,24 @@ def draw_history(page, top, columns, links, kept):
         page.dot(x, y, root, f"..{root % 1000:03}")
 
 
-def main(bits, grid, supervoxels, edges, log, supervoxel):
+def entries_of(log, at):
+    """Returns the entries of a log up to a time, or all if it is None; the summary is no entry."""
+    with open(log, encoding="utf-8") as file:
+        entries = [entry for entry in map(json.loads, file) if "op" in entry]
+    return [entry for entry in entries if at is None or entry["at"] <= at]
+
+
+def main(bits, grid, supervoxels, edges, log, supervoxel, at=None):
     with open(supervoxels, newline="") as file:
         ids = [int(row["supervoxel"]) for row in csv.DictReader(file)]
     with open(edges, newline="") as file:
         rows = list(csv.DictReader(file))
     states = {tuple(sorted((int(r["a"]), int(r["b"])))): r["active"] == "1" for r in rows}
-    with open(log, encoding="utf-8") as file:
-        entries = [entry for entry in map(json.loads, file) if "op" in entry]
     seg = Segmentation(bits, grid, ids, states)
-    leaves, columns, links = history_of(entries, seg)
-    root = seg.node[seg.top, supervoxel]
+    leaves, columns, links = history_of(entries_of(log, at), seg)
+    root = seg.node.get((seg.top, supervoxel))
+    if root is None:
+        sys.exit(f"{supervoxel} has no root at that time")
     page = Page()
     page.text(10, 20, f"root {root}, {len(leaves[root])} supervoxels; numbers are segments", "start")
     bottom = draw_octree(page, seg, leaves[root])
@@ -180,7 +188,7 @@ def main(bits, grid, supervoxels, edges, log, supervoxel):
 
 
 if __name__ == "__main__":
-    if len(sys.argv) != 7:
+    if len(sys.argv) not in (7, 8):
         sys.exit(__doc__)
     words = sys.argv[1:]
-    main(int(words[0]), [int(n) for n in words[1].split(",")], *words[2:5], int(words[5]))
+    main(int(words[0]), [int(n) for n in words[1].split(",")], *words[2:5], *map(int, words[5:]))

@@ -1,4 +1,4 @@
-"""Makes the two tables of pcg, and a file of requests, from a small labelled volume.
+"""Makes the two tables of pcg from a small labelled volume and its image.
 
 usage: make_tables.py FOLDER
 
@@ -94,10 +94,6 @@ def main(folder):
     edges = [edge_row(*item) for item in sorted(edges_of(LABELS, supervoxel).items())]
     write_table(os.path.join(folder, "supervoxels.csv"), ["supervoxel"], [[v] for v in ids])
     write_table(os.path.join(folder, "edges.csv"), ["a", "b", "affinity", "active"], edges)
-    with open(os.path.join(folder, "first.req"), "w") as file:
-        for do in ("root", "path"):
-            for v in ids:
-                file.write(f'{{"do":"{do}","sv":"{v}"}}\n')
     size = (len(LABELS[0][0]), len(LABELS[0]), len(LABELS))
     grid = ",".join(str(-(-n // c)) for n, c in zip(size, CHUNK))
     glue = sum(edge[2] == "glue" for edge in edges)
