@@ -10,7 +10,7 @@ use Rattle.op_model.specs.declared.reply.Reply.{Reply}
 use Rattle.op_model.specs.declared.reply.Reply.TheVariants as reply
 use Rattle.op_model.specs.Operations.{touched}
 use Rattle.op_model.specs.Refusals.{refuse_early, refuse_cut, refuse_late}
-use Rattle.op_model.specs.Transcript.{Line, Asks, Faulty, Unbuilt, log_at}
+use Rattle.op_model.specs.Transcript.{Line, Asks, Faulty, log_at}
 use Rattle.op_model.specs.Locks.{locks_of}
 use Rattle.session_machine.specs.Machine.{After, Answer, Restart, Phase, Ready, Again, Locking, Pinning, Planning, Waiting, Checking, Committing, Yielding, Releasing, Replying, Ended, ClientState, Shared, Choice, holds_all, locking, after, give_back, looked, look, read_line, take_line, pinned_at, planned, checked, event}
 
@@ -32,7 +32,6 @@ module _ (d : Dataset) (b : Base) where
 
   read_line_same : (sh : Shared) (s : ClientState) (l : Line) → Same s (read_line d b sh s l)
   read_line_same sh s (Faulty error) = refl
-  read_line_same sh s Unbuilt = refl
   read_line_same sh s (Asks (request.Read r)) = refl
   read_line_same sh s (Asks (request.Edit edit)) = looked_same sh s edit (refuse_early d b sh.log edit)
 
@@ -123,7 +122,6 @@ module _ (d : Dataset) (b : Base) where
 
   read_line_open : (sh : Shared) (s : ClientState) (l : Line) → IsOpen (read_line d b sh s l)
   read_line_open sh s (Faulty error) e = cc
-  read_line_open sh s Unbuilt e = cc
   read_line_open sh s (Asks (request.Read r)) e = cc
   read_line_open sh s (Asks (request.Edit edit)) e = looked_open sh s edit (refuse_early d b sh.log edit) e
 

@@ -14,7 +14,6 @@ unfoldable pub refuses : Reply → Bool
 refuses (reply.Refused refusal seen) = true
 refuses (reply.BadLine error) = true
 refuses reply.NoMemory = true
-refuses reply.NotBuilt = true
 refuses r = false
 
 -- a count and one more, which stands still at its type's end

@@ -39,7 +39,6 @@ fn refuses(reply: &Reply) -> bool
         Reply::Refused { .. } => true,
         Reply::BadLine { .. } => true,
         Reply::NoMemory => true,
-        Reply::NotBuilt => true,
         _ => false,
     }
 }

@@ -15,7 +15,7 @@ use Rattle.op_model.specs.declared.reply.Reply.TheVariants as reply
 use Rattle.op_model.specs.declared.request.Request.TheVariants as request
 use Rattle.op_model.specs.Operations.{touched}
 use Rattle.op_model.specs.Refusals.{refuse_early, refuse_cut, refuse_late}
-use Rattle.op_model.specs.Transcript.{Line, Asks, Faulty, Unbuilt, log_at}
+use Rattle.op_model.specs.Transcript.{Line, Asks, Faulty, log_at}
 use Rattle.graph_model.specs.Lists.{has}
 use Rattle.op_model.specs.Locks.{locks_of}
 use Rattle.session_machine.specs.Machine as machine
@@ -96,7 +96,6 @@ module _ (d : Dataset) (b : Base) (sh : machine.Shared) (s : machine.ClientState
 
   calm_heard : (l : Line) → is_commit (machine.read_line d b sh s l).phase ≡ false
   calm_heard (Faulty error) = refl
-  calm_heard Unbuilt = refl
   calm_heard (Asks (request.Read q)) = refl
   calm_heard (Asks (request.Edit edit)) = calm_looked edit (refuse_early d b sh.log edit)
 
@@ -127,7 +126,6 @@ module _ (d : Dataset) (b : Base) (sh : machine.Shared) (s : machine.ClientState
 
   named_heard : (l : Line) → act_named machine.Ready (machine.read_line d b sh s l).phase ≡ act.Look
   named_heard (Faulty error) = refl
-  named_heard Unbuilt = refl
   named_heard (Asks (request.Read q)) = refl
   named_heard (Asks (request.Edit edit)) = named_looked edit (refuse_early d b sh.log edit)
 
@@ -145,7 +143,6 @@ module _ (d : Dataset) (b : Base) (sh : machine.Shared) (s : machine.ClientState
 
   keeps_heard : (l : Line) → Keeps (machine.read_line d b sh s l)
   keeps_heard (Faulty error) = (refl, refl, refl)
-  keeps_heard Unbuilt = (refl, refl, refl)
   keeps_heard (Asks (request.Read q)) = (refl, refl, refl)
   keeps_heard (Asks (request.Edit edit)) = keeps_looked edit (refuse_early d b sh.log edit)
 

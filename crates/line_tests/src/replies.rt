@@ -207,11 +207,11 @@ fn answers_a_failed_flush(alloc: Global, flush_fails: Vec<u32>) -> bool {
     else {
         return false;
     };
-    write_reply(&Reply::NotBuilt, &mut sink).is_ok()
-        && write_reply(&Reply::NotBuilt, &mut sink) == Err(Failed)
+    write_reply(&Reply::NoMemory, &mut sink).is_ok()
+        && write_reply(&Reply::NoMemory, &mut sink) == Err(Failed)
         && sink.faults() == 1
         && sink.bytes()
-            == b"{\"ok\":false,\"refusal\":\"NotBuilt\"}\n{\"ok\":false,\"refusal\":\"NotBuilt\"}\n".as_slice()
+            == b"{\"ok\":false,\"refusal\":\"NoMemory\"}\n{\"ok\":false,\"refusal\":\"NoMemory\"}\n".as_slice()
 }
 
 #[test]

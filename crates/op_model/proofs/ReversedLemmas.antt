@@ -13,7 +13,7 @@ use Rattle.op_model.specs.Cuts.{Shows}
 use Rattle.op_model.specs.Refusals.{refused}
 use Rattle.op_model.specs.Answers.{answer}
 use Rattle.op_model.specs.Transcript.{Line, log_at, read_reply, Transcript, entries_of, WholeTranscript}
-use Rattle.op_model.specs.Reversed.{IsReplied, OutOfMemory, BadLine, NotBuilt, Answered, Refused, Accepted, ReversedTranscript}
+use Rattle.op_model.specs.Reversed.{IsReplied, OutOfMemory, BadLine, Answered, Refused, Accepted, ReversedTranscript}
 use Rattle.op_model.specs.Laws.{TranscriptsReverse, TranscriptsLast}
 use Rattle.op_model.proofs.TranscriptLemmas.{reverse_more, one, first}
 
@@ -80,7 +80,6 @@ module _ (d : Dataset) (b : Base) where
       → IsReplied d b log i line last own a r k owns → IsReplied d b (e ∷ log) i line last own a r k owns
   replied_more e log i line last own a r k owns (OutOfMemory x y z) = OutOfMemory x y z
   replied_more e log i line last own a r k owns (BadLine error x y z w) = BadLine error x y z w
-  replied_more e log i line last own a r k owns (NotBuilt x y z w) = NotBuilt x y z w
   replied_more e log i line last own a r k owns (Answered q x l m n y z) =
       Answered q x l m (omega arith) (subst (λ h. r ≡ read_reply (refused d b h (request.Read q)) h (answer d b h q)) (sym (log_at_more d b e log k n)) y) z
   replied_more e log i line last own a r k owns (Refused edit refusal x y l m n z w) =

@@ -12,8 +12,8 @@ use Rattle.op_model.specs.declared.reply.Reply.{Reply}
 use Rattle.op_model.specs.declared.reply.Reply.TheVariants as reply
 use Rattle.op_model.specs.Refusals.{refused}
 use Rattle.op_model.specs.Answers.{answer}
-use Rattle.op_model.specs.Transcript.{Line, Asks, Faulty, Unbuilt, log_at, read_reply, Transcript}
-use Rattle.op_model.specs.Reversed.{IsReplied, OutOfMemory, BadLine, NotBuilt, Answered, Refused, Accepted}
+use Rattle.op_model.specs.Transcript.{Line, Asks, Faulty, log_at, read_reply, Transcript}
+use Rattle.op_model.specs.Reversed.{IsReplied, OutOfMemory, BadLine, Answered, Refused, Accepted}
 
 pub reverse_more : {X : Type 0} (x : X) (xs ys : List X) → reverse (x ∷ xs) ++ ys ≡ reverse xs ++ x ∷ ys
 reverse_more x xs ys = ap (λ zs. zs ++ ys) (reverse-append (x ∷ []) xs) ∙ append_assoc (reverse xs) (x ∷ []) ys
@@ -41,7 +41,6 @@ module _ (d : Dataset) (b : Base) where
   answered log i line last own lines rs q (reply.Edited x0 x1 x2 x3 x4 x5) k l m n e t = (k, l, m, n, e, t)
   answered log i line last own lines rs q (reply.Refused x0 x1) k l m n e t = (k, l, m, n, e, t)
   answered log i line last own lines rs q (reply.BadLine x0) k l m n e t = (k, l, m, n, e, t)
-  answered log i line last own lines rs q reply.NotBuilt k l m n e t = (k, l, m, n, e, t)
 
   -- a line with its reply goes before the others
   pub one : (log : List Entry) (i line last : ℕ) (own : List Entry) (a : Line) (r : Reply) (k : ℕ) (owns own2 : List Entry) (lines : List Line) (rs : List Reply)
@@ -54,12 +53,6 @@ module _ (d : Dataset) (b : Base) where
     ap (λ o. reverse o ++ own2) w,
     subst (λ q. From log i line last own2 (a ∷ lines) (q ∷ rs)) (sym y)
         (subst (λ q. From log i line last own2 (q ∷ lines) (reply.BadLine error ∷ rs)) (sym x) (refl, subst (λ n. From log i (line + 1) n own2 lines rs) z t)),
-  )
-  one log i line last own a r k owns own2 lines rs (NotBuilt x y z w) t = (
-    own2,
-    ap (λ o. reverse o ++ own2) w,
-    subst (λ q. From log i line last own2 (a ∷ lines) (q ∷ rs)) (sym y)
-        (subst (λ q. From log i line last own2 (q ∷ lines) (reply.NotBuilt ∷ rs)) (sym x) (refl, subst (λ n. From log i (line + 1) n own2 lines rs) z t)),
   )
   one log i line last own a r k owns own2 lines rs (Answered q x l m n y z) t = (
     own2,
@@ -90,15 +83,6 @@ module _ (d : Dataset) (b : Base) where
   first log i line last own rest (Faulty error) lines (reply.Edited x0 x1 x2 x3 x4 x5) rs t = (last, own, rest, BadLine error refl t.0 refl refl, refl, t.1)
   first log i line last own rest (Faulty error) lines (reply.Refused x0 x1) rs t = (last, own, rest, BadLine error refl t.0 refl refl, refl, t.1)
   first log i line last own rest (Faulty error) lines (reply.BadLine x0) rs t = (last, own, rest, BadLine error refl t.0 refl refl, refl, t.1)
-  first log i line last own rest (Faulty error) lines reply.NotBuilt rs t = (last, own, rest, BadLine error refl t.0 refl refl, refl, t.1)
-  first log i line last own rest Unbuilt lines (reply.Root x0 x1) rs t = (last, own, rest, NotBuilt refl t.0 refl refl, refl, t.1)
-  first log i line last own rest Unbuilt lines (reply.Path x0 x1) rs t = (last, own, rest, NotBuilt refl t.0 refl refl, refl, t.1)
-  first log i line last own rest Unbuilt lines (reply.Leaves x0 x1) rs t = (last, own, rest, NotBuilt refl t.0 refl refl, refl, t.1)
-  first log i line last own rest Unbuilt lines (reply.Changes x0 x1) rs t = (last, own, rest, NotBuilt refl t.0 refl refl, refl, t.1)
-  first log i line last own rest Unbuilt lines (reply.Edited x0 x1 x2 x3 x4 x5) rs t = (last, own, rest, NotBuilt refl t.0 refl refl, refl, t.1)
-  first log i line last own rest Unbuilt lines (reply.Refused x0 x1) rs t = (last, own, rest, NotBuilt refl t.0 refl refl, refl, t.1)
-  first log i line last own rest Unbuilt lines (reply.BadLine x0) rs t = (last, own, rest, NotBuilt refl t.0 refl refl, refl, t.1)
-  first log i line last own rest Unbuilt lines reply.NotBuilt rs t = (last, own, rest, NotBuilt refl t.0 refl refl, refl, t.1)
   first log i line last own rest (Asks (request.Read q)) lines (reply.Root x0 x1) rs t = (t.0, own, rest, Answered q refl t.1 t.2 t.3 t.4 refl, refl, t.5)
   first log i line last own rest (Asks (request.Read q)) lines (reply.Path x0 x1) rs t = (t.0, own, rest, Answered q refl t.1 t.2 t.3 t.4 refl, refl, t.5)
   first log i line last own rest (Asks (request.Read q)) lines (reply.Leaves x0 x1) rs t = (t.0, own, rest, Answered q refl t.1 t.2 t.3 t.4 refl, refl, t.5)
@@ -106,7 +90,6 @@ module _ (d : Dataset) (b : Base) where
   first log i line last own rest (Asks (request.Read q)) lines (reply.Edited x0 x1 x2 x3 x4 x5) rs t = (t.0, own, rest, Answered q refl t.1 t.2 t.3 t.4 refl, refl, t.5)
   first log i line last own rest (Asks (request.Read q)) lines (reply.Refused x0 x1) rs t = (t.0, own, rest, Answered q refl t.1 t.2 t.3 t.4 refl, refl, t.5)
   first log i line last own rest (Asks (request.Read q)) lines (reply.BadLine x0) rs t = (t.0, own, rest, Answered q refl t.1 t.2 t.3 t.4 refl, refl, t.5)
-  first log i line last own rest (Asks (request.Read q)) lines reply.NotBuilt rs t = (t.0, own, rest, Answered q refl t.1 t.2 t.3 t.4 refl, refl, t.5)
   first log i line last own rest (Asks (request.Edit edit)) lines (reply.Root x0 x1) rs t = absurd t
   first log i line last own rest (Asks (request.Edit edit)) lines (reply.Path x0 x1) rs t = absurd t
   first log i line last own rest (Asks (request.Edit edit)) lines (reply.Leaves x0 x1) rs t = absurd t
@@ -116,4 +99,3 @@ module _ (d : Dataset) (b : Base) where
       (k, e ∷ own, rest, Accepted edit e op at retired made shown refl refl t.0 t.1 t.2 refl, sym (reverse_more e own rest), t.3)
   first log i line last own rest (Asks (request.Edit edit)) lines (reply.Refused refusal k) rs t = (k, own, rest, Refused edit refusal refl refl t.0 t.1 t.2 t.3 refl, refl, t.4)
   first log i line last own rest (Asks (request.Edit edit)) lines (reply.BadLine x0) rs t = absurd t
-  first log i line last own rest (Asks (request.Edit edit)) lines reply.NotBuilt rs t = absurd t

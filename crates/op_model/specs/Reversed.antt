@@ -13,14 +13,13 @@ use Rattle.op_model.specs.declared.reply.Reply.TheVariants as reply
 use Rattle.op_model.specs.declared.reply.Refusal.{Refusal}
 use Rattle.op_model.specs.Refusals.{refused}
 use Rattle.op_model.specs.Answers.{answer}
-use Rattle.op_model.specs.Transcript.{Line, Asks, Faulty, Unbuilt, read_reply, log_at, Tells}
+use Rattle.op_model.specs.Transcript.{Line, Asks, Faulty, read_reply, log_at, Tells}
 
 module _ (d : Dataset) (b : Base) where
   -- What a line of a client may be replied. The replies before it told of the entries own and named last as their last length; with this one they tell of owns and name k.
   pub data IsReplied (history : List Entry) (client line last : ℕ) (own : List Entry) (a : Line) (r : Reply) (k : ℕ) (owns : List Entry) : Type 0 where
     OutOfMemory : r ≡ reply.NoMemory → k ≡ last → owns ≡ own → IsReplied history client line last own a r k owns
     BadLine : (error : LineError) → a ≡ Faulty error → r ≡ reply.BadLine error → k ≡ last → owns ≡ own → IsReplied history client line last own a r k owns
-    NotBuilt : a ≡ Unbuilt → r ≡ reply.NotBuilt → k ≡ last → owns ≡ own → IsReplied history client line last own a r k owns
     Answered :
         (q : Read) → a ≡ Asks (request.Read q) → 1 ≤ k → last ≤ k → k ≤ length history
         → r ≡ read_reply (refused d b (log_at d b history k) (request.Read q)) (log_at d b history k) (answer d b (log_at d b history k) q) → owns ≡ own

@@ -114,9 +114,6 @@ pub enum Reply {
     BadLine {
         error: LineError,
     },
-    /// The line is of a form that the product doesn't answer yet. Scaffolding: it goes once every
-    /// form is answered.
-    NotBuilt,
     /// There was no memory to answer. An edit changed nothing.
     NoMemory,
 }

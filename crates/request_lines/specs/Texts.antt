@@ -40,7 +40,6 @@ text_of_reply (reply.Edited op at retired made shown seen) = edited_text op at r
 text_of_reply (reply.Refused refusal seen) = refused_text refusal seen
 text_of_reply (reply.BadLine error) = bad_line_text error
 text_of_reply reply.NoMemory = bare (codes "NoMemory")
-text_of_reply reply.NotBuilt = bare (codes "NotBuilt")
 
 -- a merge of one pair names its ends, any other lists its pairs
 unfoldable pub merge_text : List AskedPair → List ℕ

@@ -142,7 +142,6 @@ fn put_reply<K: Sink>(page: &mut Page, out: &mut K, reply: &Reply)
         Reply::Refused { refusal, seen } => put_refused(page, out, *refusal, *seen),
         Reply::BadLine { error } => put_bad_line(page, out, *error),
         Reply::NoMemory => put_bare(page, out, b"NoMemory"),
-        Reply::NotBuilt => put_bare(page, out, b"NotBuilt"),
     }
 }
 

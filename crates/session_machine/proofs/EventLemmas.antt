@@ -18,9 +18,9 @@ use Rattle.op_model.specs.Operations.{touched}
 use Rattle.op_model.specs.Refusals.{refuse_early, refuse_cut, refused}
 use Rattle.op_model.specs.Answers.{answer}
 use Rattle.op_model.specs.Legal.{Legal}
-use Rattle.op_model.specs.Transcript.{Line, Asks, Faulty, Unbuilt, log_at, read_reply}
+use Rattle.op_model.specs.Transcript.{Line, Asks, Faulty, log_at, read_reply}
 use Rattle.op_model.specs.Locks.{locks_of}
-use Rattle.op_model.specs.Reversed.{OutOfMemory, BadLine, NotBuilt, Answered, Accepted}
+use Rattle.op_model.specs.Reversed.{OutOfMemory, BadLine, Answered, Accepted}
 use Rattle.op_model.proofs.ReversedLemmas.{log_at_more, reversed_more}
 use Rattle.session_machine.specs.Machine.{After, Answer, Restart, Ready, Locking, Pinning, Planning, Waiting, Checking, Committing, Yielding, Releasing, Replying, Ended, ClientState, Shared, Choice, holds_all, locking, give_back, read_line, take_line, pinned_at, planned, plan, event}
 use Rattle.session_machine.specs.Invariant.{newer, Covers, ClientHistory}
@@ -50,8 +50,6 @@ module _ (d : Dataset) (b : Base) where
       → KeepsHistory d b i (sh, read_line d b sh (record s { lines = lines; asked = l ∷ s.asked }) l)
   read_line_log i sh s lines (Faulty error) h o =
       record { seen = o.seen; own = o.own; spared = o.spared; plan = tt; replied = (o.replied.0, o.replied.1, (o.replied.0, s.own, BadLine error refl refl refl refl, o.replied.2)) }
-  read_line_log i sh s lines Unbuilt h o =
-      record { seen = o.seen; own = o.own; spared = o.spared; plan = tt; replied = (o.replied.0, o.replied.1, (o.replied.0, s.own, NotBuilt refl refl refl refl, o.replied.2)) }
   read_line_log i sh s lines (Asks (request.Read q)) h o =
       record {
         seen = (le_both 1 s.seen (length sh.log) o.seen.0 o.seen.1, le_self (length sh.log));

@@ -14,7 +14,7 @@ use Rattle.op_model.specs.declared.reply.Refusal.{Refusal}
 use Rattle.op_model.specs.declared.reply.Reply.TheVariants as reply
 use Rattle.op_model.specs.Operations.{touched}
 use Rattle.op_model.specs.Refusals.{refuse_early, refuse_cut, refuse_late}
-use Rattle.op_model.specs.Transcript.{Line, Asks, Faulty, Unbuilt, log_at}
+use Rattle.op_model.specs.Transcript.{Line, Asks, Faulty, log_at}
 use Rattle.op_model.specs.Locks.{locks_of, lock_of}
 use Rattle.session_machine.specs.Machine.{After, Answer, Restart, Phase, Ready, Again, Locking, Pinning, Planning, Waiting, Checking, Committing, Yielding, Releasing, Replying, Ended, ClientState, Shared, State, Choice, holds_all, locking, give_back, looked, look, read_line, take_line, pinned_at, planned, checked, event, step_client, step, run, new_client}
 use Rattle.session_machine.proofs.StepLemmas.{step_clients}
@@ -100,7 +100,6 @@ module _ (d : Dataset) (b : Base) (bits : IsLayout d.layout) where
 
   read_line_holds : (sh : Shared) (s : ClientState) (l : Line) → Legal d b sh.log → Holds (read_line d b sh s l)
   read_line_holds sh s (Faulty error) legal = λ h. absurd (false≢true h)
-  read_line_holds sh s Unbuilt legal = λ h. absurd (false≢true h)
   read_line_holds sh s (Asks (request.Read r)) legal = λ h. absurd (false≢true h)
   read_line_holds sh s (Asks (request.Edit edit)) legal = looked_holds sh s edit (refuse_early d b sh.log edit) refl legal
 

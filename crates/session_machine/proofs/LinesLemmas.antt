@@ -9,7 +9,7 @@ use Rattle.op_model.specs.declared.reply.Refusal.{Refusal}
 use Rattle.op_model.specs.declared.reply.Reply.TheVariants as reply
 use Rattle.op_model.specs.Operations.{touched}
 use Rattle.op_model.specs.Refusals.{refuse_early, refuse_cut, refuse_late}
-use Rattle.op_model.specs.Transcript.{Line, Asks, Faulty, Unbuilt, log_at}
+use Rattle.op_model.specs.Transcript.{Line, Asks, Faulty, log_at}
 use Rattle.op_model.specs.Locks.{locks_of}
 use Rattle.op_model.proofs.TranscriptLemmas.{reverse_more}
 use Rattle.session_machine.specs.Machine.{Answer, Phase, Ready, Again, Locking, Pinning, Planning, Waiting, Checking, Committing, Yielding, Releasing, Replying, Ended, ClientState, Shared, State, Choice, holds_all, locking, give_back, looked, look, read_line, take_line, pinned_at, planned, checked, event, step_client, step, run, new_client, start}
@@ -33,7 +33,6 @@ module _ (d : Dataset) (b : Base) where
 
   read_line_same : (sh : Shared) (s : ClientState) (l : Line) → Same s (read_line d b sh s l)
   read_line_same sh s (Faulty error) = (refl, refl)
-  read_line_same sh s Unbuilt = (refl, refl)
   read_line_same sh s (Asks (request.Read r)) = (refl, refl)
   read_line_same sh s (Asks (request.Edit edit)) = looked_same sh s edit (refuse_early d b sh.log edit)
 

@@ -12,7 +12,7 @@ use Rattle.op_model.specs.declared.reply.Refusal.{Refusal}
 use Rattle.op_model.specs.declared.reply.Reply.TheVariants as reply
 use Rattle.op_model.specs.Operations.{touched}
 use Rattle.op_model.specs.Refusals.{refuse_early, refuse_cut, refuse_late}
-use Rattle.op_model.specs.Transcript.{Line, Asks, Faulty, Unbuilt, log_at}
+use Rattle.op_model.specs.Transcript.{Line, Asks, Faulty, log_at}
 use Rattle.op_model.specs.Locks.{locks_of}
 use Rattle.op_model.proofs.ReversedLemmas.{log_at_more}
 use Rattle.session_machine.specs.Machine.{After, Answer, Restart, Phase, Ready, Again, Locking, Pinning, Planning, Waiting, Checking, Committing, Yielding, Releasing, Replying, Ended, ClientState, Shared, State, Choice, holds_all, locking, give_back, looked, look, read_line, take_line, pinned_at, planned, checked, event, step_client, step, run, new_client, IsRun}
@@ -43,7 +43,6 @@ module _ (d : Dataset) (b : Base) where
 
   later_read_line : (sh : Shared) (s : ClientState) (l : Line) → later (read_line d b sh s l).phase ≡ false
   later_read_line sh s (Faulty error) = refl
-  later_read_line sh s Unbuilt = refl
   later_read_line sh s (Asks (request.Read q)) = refl
   later_read_line sh s (Asks (request.Edit edit)) = later_looked sh s edit (refuse_early d b sh.log edit)
 

@@ -14,7 +14,7 @@ use Rattle.graph_model.specs.Lists.{has}
 use Rattle.op_model.specs.Valid.{IsAscending}
 use Rattle.op_model.specs.Operations.{touched}
 use Rattle.op_model.specs.Refusals.{refuse_early, refuse_cut, refuse_late}
-use Rattle.op_model.specs.Transcript.{Line, Asks, Faulty, Unbuilt, log_at}
+use Rattle.op_model.specs.Transcript.{Line, Asks, Faulty, log_at}
 use Rattle.op_model.specs.Locks.{locks_of}
 use Rattle.op_model.proofs.LockLemmas.{locks_listed}
 use Rattle.session_machine.specs.Machine.{After, Answer, Restart, Phase, Ready, Again, Locking, Pinning, Planning, Waiting, Checking, Committing, Yielding, Releasing, Replying, Ended, ClientState, Shared, Choice, locking, give_back, looked, look, read_line, take_line, pinned_at, planned, plan, checked, check, event}
@@ -91,7 +91,6 @@ module _ (d : Dataset) (b : Base) where
 
   read_line_kept : (i : ℕ) (sh : Shared) (s : ClientState) (l : Line) → Idle sh i s → Kept i (sh, read_line d b sh s l)
   read_line_kept i sh s (Faulty error) o = record { mine = o.mine; order = idle_order s o.held; holds = o.held; pins = o.pinned; turn = o.turn }
-  read_line_kept i sh s Unbuilt o = record { mine = o.mine; order = idle_order s o.held; holds = o.held; pins = o.pinned; turn = o.turn }
   read_line_kept i sh s (Asks (request.Read q)) o = record { mine = o.mine; order = idle_order s o.held; holds = o.held; pins = o.pinned; turn = o.turn }
   read_line_kept i sh s (Asks (request.Edit edit)) o = looked_kept i sh s edit (refuse_early d b sh.log edit) o
 

@@ -18,7 +18,7 @@ use Rattle.graph_model.specs.Lists.{has}
 use Rattle.op_model.specs.Valid.{IsAscending}
 use Rattle.op_model.specs.Operations.{touched}
 use Rattle.op_model.specs.Refusals.{refuse_early, refuse_cut, refuse_late}
-use Rattle.op_model.specs.Transcript.{Line, Asks, Faulty, Unbuilt, log_at}
+use Rattle.op_model.specs.Transcript.{Line, Asks, Faulty, log_at}
 use Rattle.graph_model.proofs.ListLemmas.{contra, has_head, has_tail}
 use Rattle.op_model.specs.Locks.{locks_of}
 use Rattle.session_machine.specs.Machine.{After, Answer, Restart, Phase, Ready, Again, Locking, Pinning, Planning, Waiting, Checking, Committing, Yielding, Releasing, Replying, Ended, ClientState, Shared, State, Choice, holds_all, locking, give_back, looked, look, read_line, take_line, pinned_at, planned, plan, checked, check, event, step_client, step, is_able}
@@ -120,7 +120,6 @@ module _ (d : Dataset) (b : Base) where
       → cost m (length sh.log) (read_line d b sh s l) (read_line d b sh s l).phase + length (read_line d b sh s l).lines * (140 + m) ≤ 138 + m + length s.lines * (140 + m)
   unfolding cost
   read_line_cost m sh s (Faulty error) h = omega arith
-  read_line_cost m sh s Unbuilt h = omega arith
   read_line_cost m sh s (Asks (request.Read r)) h = omega arith
   read_line_cost m sh s (Asks (request.Edit edit)) h = looked_cost m sh s edit (refuse_early d b sh.log edit) h
 

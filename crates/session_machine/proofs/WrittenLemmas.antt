@@ -7,7 +7,7 @@ use Rattle.op_model.specs.declared.base.Base.{Base}
 use Rattle.op_model.specs.declared.entry.Entry.{Entry}
 use Rattle.op_model.specs.declared.reply.Reply.{Reply}
 use Rattle.op_model.specs.Transcript.{Line, WholeTranscript}
-use Rattle.op_model.specs.Reversed.{IsReplied, OutOfMemory, BadLine, NotBuilt, Answered, Refused, Accepted}
+use Rattle.op_model.specs.Reversed.{IsReplied, OutOfMemory, BadLine, Answered, Refused, Accepted}
 use Rattle.op_model.proofs.TranscriptLemmas.{reverse_more}
 use Rattle.session_machine.specs.Machine.{Answer, Restart, Phase, Ready, Again, Locking, Pinning, Planning, Waiting, Checking, Committing, Yielding, Releasing, Replying, Ended, ClientState}
 use Rattle.session_machine.specs.Invariant.{RepliedTo, ClientHistory}
@@ -20,7 +20,6 @@ module _ (d : Dataset) (b : Base) where
   own_kept : (log : List Entry) (i line last : ℕ) (own : List Entry) (a : Line) (r : Reply) (k : ℕ) (owns : List Entry) → is_edited r ≡ false → IsReplied d b log i line last own a r k owns → owns ≡ own
   own_kept log i line last own a r k owns e (OutOfMemory x y z) = z
   own_kept log i line last own a r k owns e (BadLine error x y z w) = w
-  own_kept log i line last own a r k owns e (NotBuilt x y z w) = w
   own_kept log i line last own a r k owns e (Answered q x l m n y z) = z
   own_kept log i line last own a r k owns e (Refused edit refusal x y l m n z w) = w
   own_kept log i line last own a r k owns e (Accepted edit f op at retired made shown x y m n t w) = absurd (false≢true (sym e ∙ ap is_edited y))

@@ -20,7 +20,7 @@ use Rattle.op_model.specs.Refusals.{refuse_early, refuse_cut, refuse_late, refus
 use Rattle.op_model.specs.Answers.{answer}
 use Rattle.op_model.specs.Locks.{locks_of}
 use Rattle.op_model.specs.Stamps.{stamp}
-use Rattle.op_model.specs.Transcript.{Line, Asks, Faulty, Unbuilt, read_reply, log_at}
+use Rattle.op_model.specs.Transcript.{Line, Asks, Faulty, read_reply, log_at}
 
 -- what a client does once it has given its locks back
 pub data After : Type 0 where
@@ -138,7 +138,6 @@ module _ (d : Dataset) (b : Base) where
   -- the look at a line that was taken
   abbrev pub read_line : Shared → ClientState → Line → ClientState
   read_line sh s (Faulty error) = record s { phase = Replying (reply.BadLine error) }
-  read_line sh s Unbuilt = record s { phase = Replying reply.NotBuilt }
   read_line sh s (Asks (request.Read q)) =
       record s { seen = length sh.log; phase = Replying (read_reply (refused d b sh.log (request.Read q)) sh.log (answer d b sh.log q)) }
   read_line sh s (Asks (request.Edit edit)) = looked sh s edit (refuse_early d b sh.log edit)

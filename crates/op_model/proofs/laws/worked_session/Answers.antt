@@ -70,18 +70,15 @@ returns c = record {
         at_most _ _ refl,
         (refl, refl, refl, refl, refl, refl, refl, refl, refl),
         (
+          at_most _ _ refl,
+          at_most _ _ refl,
+          at_most _ _ refl,
           refl,
           (
+            below _ _ refl,
             at_most _ _ refl,
-            at_most _ _ refl,
-            at_most _ _ refl,
+            (refl, refl, refl, refl, refl, refl, refl, refl, split_shown),
             refl,
-            (
-              below _ _ refl,
-              at_most _ _ refl,
-              (refl, refl, refl, refl, refl, refl, refl, refl, split_shown),
-              refl,
-            ),
           ),
         ),
       ),
