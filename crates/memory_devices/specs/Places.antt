@@ -1,6 +1,7 @@
 -- What a place in memory shows.
-use Rattle.std.specs.Prelude.{ℕ, List, Bool}
+use Rattle.std.specs.Prelude.{ℕ, List, Bool, Some}
 use Rattle.memory_devices.specs.declared.mem_place.MemPlace.{MemPlace}
+use Rattle.pcg_base.specs.States.{PlaceState}
 use Rattle.pcg_base.specs.Told.{Files, Counts}
 use Rattle.memory_devices.specs.Kept.{map_of, left_at, faults_in, faults_out, was_in, was_out, Fails, fails_at, times}
 
@@ -44,3 +45,15 @@ room_by p = p.room
 -- which calls fail of a name's sources and sinks
 abbrev pub fails_by : MemPlace → List ℕ → Fails
 fails_by p name = fails_at name p.kept.items
+
+-- what every place shows
+abbrev pub state_of : MemPlace → PlaceState
+state_of p = record {
+  files = Some (told_by p);
+  left = left_by p;
+  reads = read_faults_by p;
+  writes = write_faults_by p;
+  counts = counts_by p;
+  opened_in = opened_in_by p;
+  opened_out = opened_out_by p;
+}

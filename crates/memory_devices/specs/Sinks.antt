@@ -1,5 +1,6 @@
 -- What a sink in memory shows.
-use Rattle.std.specs.Prelude.{ℕ, List, take}
+use Rattle.std.specs.Prelude.{ℕ, List, take, Some}
+use Rattle.pcg_base.specs.States.{SinkState}
 use Rattle.memory_devices.specs.declared.mem_sink.MemSink.{MemSink}
 
 -- the bytes that it holds
@@ -37,3 +38,7 @@ flushes_of k = k.flushes
 -- how many writes and flushes failed
 abbrev pub faults_of : MemSink → ℕ
 faults_of k = k.faults
+
+-- what every sink shows
+abbrev pub state_of : MemSink → SinkState
+state_of k = record { held = Some (held_in k); flushed = Some (flushed_in k); faults = faults_of k }

@@ -85,7 +85,8 @@ pub(crate) fn open_in(kept: &mut Vec<Kept>, i: usize, name: &str)
     ensures source_faults { (n : List ℕ) → faults_in n kept.new.items ≡ faults_in n kept.old.items }
     ensures sink_faults { (n : List ℕ) → faults_out n kept.new.items ≡ faults_out n kept.old.items }
     ensures opened { was_in name.now kept.new.items ≡ true }
-    ensures stays_in { (n : List ℕ) → was_in n kept.old.items ≡ true → was_in n kept.new.items ≡ true }
+    ensures stays_in { (n : List ℕ) → was_in n kept.old.items ≡ true
+        → was_in n kept.new.items ≡ true }
     ensures stays_out { (n : List ℕ) → was_out n kept.new.items ≡ was_out n kept.old.items }
     ensures fails { (n : List ℕ) → fails_at n kept.new.items ≡ fails_at n kept.old.items }
 {
@@ -103,7 +104,8 @@ pub(crate) fn open_out(kept: &mut Vec<Kept>, i: usize, name: &str)
     ensures sink_faults { (n : List ℕ) → faults_out n kept.new.items ≡ faults_out n kept.old.items }
     ensures opened { was_out name.now kept.new.items ≡ true }
     ensures stays_in { (n : List ℕ) → was_in n kept.new.items ≡ was_in n kept.old.items }
-    ensures stays_out { (n : List ℕ) → was_out n kept.old.items ≡ true → was_out n kept.new.items ≡ true }
+    ensures stays_out { (n : List ℕ) → was_out n kept.old.items ≡ true
+        → was_out n kept.new.items ≡ true }
     ensures fails { (n : List ℕ) → fails_at n kept.new.items ≡ fails_at n kept.old.items }
 {
     let _ = name;
@@ -118,10 +120,13 @@ pub(crate) fn put_source(kept: &mut Vec<Kept>, i: usize, name: &str, source: Mem
     requires first { FirstAt name.now kept.old.items i }
     ensures files { map_of kept.new.items ≡ map_of kept.old.items }
     ensures left { left_at name.now kept.new.items ≡ left_in source }
-    ensures only_left { (n : List ℕ) → n ≢ name.now → left_at n kept.new.items ≡ left_at n kept.old.items }
-    ensures here { faults_in name.now kept.new.items ≡ added (faults_in name.now kept.old.items) source.faults }
+    ensures only_left { (n : List ℕ) → n ≢ name.now
+        → left_at n kept.new.items ≡ left_at n kept.old.items }
+    ensures here { faults_in name.now kept.new.items
+        ≡ added (faults_in name.now kept.old.items) source.faults }
     ensures later { faults_in name.now kept.old.items ≤ faults_in name.now kept.new.items }
-    ensures elsewhere { (n : List ℕ) → n ≢ name.now → faults_in n kept.new.items ≡ faults_in n kept.old.items }
+    ensures elsewhere { (n : List ℕ) → n ≢ name.now
+        → faults_in n kept.new.items ≡ faults_in n kept.old.items }
     ensures sink_faults { (n : List ℕ) → faults_out n kept.new.items ≡ faults_out n kept.old.items }
     ensures stays_in { (n : List ℕ) → was_in n kept.new.items ≡ was_in n kept.old.items }
     ensures stays_out { (n : List ℕ) → was_out n kept.new.items ≡ was_out n kept.old.items }
@@ -139,9 +144,11 @@ pub(crate) fn put_sink(kept: &mut Vec<Kept>, i: usize, name: &str, faults: u64, 
     requires first { FirstAt name.now kept.old.items i }
     ensures files { map_of kept.new.items ≡ insert (map_of kept.old.items) name.now bytes.items }
     ensures left { (n : List ℕ) → left_at n kept.new.items ≡ left_at n kept.old.items }
-    ensures here { faults_out name.now kept.new.items ≡ added (faults_out name.now kept.old.items) faults }
+    ensures here { faults_out name.now kept.new.items
+        ≡ added (faults_out name.now kept.old.items) faults }
     ensures later { faults_out name.now kept.old.items ≤ faults_out name.now kept.new.items }
-    ensures elsewhere { (n : List ℕ) → n ≢ name.now → faults_out n kept.new.items ≡ faults_out n kept.old.items }
+    ensures elsewhere { (n : List ℕ) → n ≢ name.now
+        → faults_out n kept.new.items ≡ faults_out n kept.old.items }
     ensures source_faults { (n : List ℕ) → faults_in n kept.new.items ≡ faults_in n kept.old.items }
     ensures stays_in { (n : List ℕ) → was_in n kept.new.items ≡ was_in n kept.old.items }
     ensures stays_out { (n : List ℕ) → was_out n kept.new.items ≡ was_out n kept.old.items }
@@ -196,14 +203,21 @@ fn push_entry(kept: &mut Vec<Kept>, name: &str, entry: Kept) -> Result<(), NoMem
 pub(crate) fn put_new(alloc: Global, kept: &mut Vec<Kept>, name: &str) -> Result<(), NoMemory>
     requires { entry_of name.now kept.old.items ≡ None }
     ensures err { OnErr result (kept.new.items ≡ kept.old.items) }
-    ensures files { OnOk result (map_of kept.new.items ≡ insert (map_of kept.old.items) name.now []) }
-    ensures left { OnOk result ((n : List ℕ) → left_at n kept.new.items ≡ left_at n kept.old.items) }
-    ensures source_faults { OnOk result ((n : List ℕ) → faults_in n kept.new.items ≡ faults_in n kept.old.items) }
-    ensures sink_faults { OnOk result ((n : List ℕ) → faults_out n kept.new.items ≡ faults_out n kept.old.items) }
+    ensures files { OnOk result (map_of kept.new.items
+        ≡ insert (map_of kept.old.items) name.now []) }
+    ensures left { OnOk result ((n : List ℕ)
+        → left_at n kept.new.items ≡ left_at n kept.old.items) }
+    ensures source_faults { OnOk result ((n : List ℕ)
+        → faults_in n kept.new.items ≡ faults_in n kept.old.items) }
+    ensures sink_faults { OnOk result ((n : List ℕ)
+        → faults_out n kept.new.items ≡ faults_out n kept.old.items) }
     ensures opened { OnOk result (was_out name.now kept.new.items ≡ true) }
-    ensures stays_in { OnOk result ((n : List ℕ) → was_in n kept.new.items ≡ was_in n kept.old.items) }
-    ensures stays_out { OnOk result ((n : List ℕ) → was_out n kept.old.items ≡ true → was_out n kept.new.items ≡ true) }
-    ensures fails { OnOk result ((n : List ℕ) → fails_at n kept.new.items ≡ fails_at n kept.old.items) }
+    ensures stays_in { OnOk result ((n : List ℕ)
+        → was_in n kept.new.items ≡ was_in n kept.old.items) }
+    ensures stays_out { OnOk result ((n : List ℕ) → was_out n kept.old.items ≡ true
+        → was_out n kept.new.items ≡ true) }
+    ensures fails { OnOk result ((n : List ℕ)
+        → fails_at n kept.new.items ≡ fails_at n kept.old.items) }
 {
     let entry = empty_file(alloc, name)?;
     push_entry(kept, name, entry)?;

@@ -54,7 +54,8 @@ fn sink_at(
     ensures room { IfOk result (λ k. sinks.room_of k ≡ room) }
     ensures piece { IfOk result (λ k. sinks.piece_of k ≡ piece) }
     ensures fails { IfOk result (λ k. sinks.fails_of k ≡ (fails_at name.now kept.now).writes) }
-    ensures flush_fails { IfOk result (λ k. sinks.flush_fails_of k ≡ (fails_at name.now kept.now).flushes) }
+    ensures flush_fails { IfOk result (λ k. sinks.flush_fails_of k
+        ≡ (fails_at name.now kept.now).flushes) }
     ensures faults { IfOk result (λ k. sinks.faults_of k ≡ 0) }
 {
     let Some(i) = place_of(kept, name) else {
@@ -73,13 +74,15 @@ fn sink_at(
 /// Empties a name or makes it, and notes that it was opened for writing.
 fn make_room(alloc: Global, kept: &mut Vec<Kept>, name: &str) -> Result<(), NoMemory>
     ensures err { OnErr result (kept.new.items ≡ kept.old.items) }
-    ensures files { OnOk result (map_of kept.new.items ≡ insert (map_of kept.old.items) name.now []) }
+    ensures files { OnOk result (map_of kept.new.items
+        ≡ insert (map_of kept.old.items) name.now []) }
     ensures left { (n : List ℕ) → left_at n kept.new.items ≡ left_at n kept.old.items }
     ensures source_faults { (n : List ℕ) → faults_in n kept.new.items ≡ faults_in n kept.old.items }
     ensures sink_faults { (n : List ℕ) → faults_out n kept.new.items ≡ faults_out n kept.old.items }
     ensures opened { OnOk result (was_out name.now kept.new.items ≡ true) }
     ensures stays_in { (n : List ℕ) → was_in n kept.new.items ≡ was_in n kept.old.items }
-    ensures stays_out { (n : List ℕ) → was_out n kept.old.items ≡ true → was_out n kept.new.items ≡ true }
+    ensures stays_out { (n : List ℕ) → was_out n kept.old.items ≡ true
+        → was_out n kept.new.items ≡ true }
     ensures fails { (n : List ℕ) → fails_at n kept.new.items ≡ fails_at n kept.old.items }
 {
     let Some(i) = place_of(kept, name) else {
@@ -122,7 +125,12 @@ impl MemPlace {
         ensures read_faults { IfOk result (λ p. read_faults_by p ≡ 0) }
         ensures write_faults { IfOk result (λ p. write_faults_by p ≡ 0) }
         ensures counts { IfOk result (λ p. (n : List ℕ) → counts_by p n
-            ≡ record { source_openings = 0; sink_openings = 0; source_faults = 0; sink_faults = 0 }) }
+            ≡ record {
+              source_openings = 0;
+              sink_openings = 0;
+              source_faults = 0;
+              sink_faults = 0;
+            }) }
         ensures opened_in { IfOk result (λ p. (n : List ℕ) → opened_in_by p n ≡ false) }
         ensures opened_out { IfOk result (λ p. (n : List ℕ) → opened_out_by p n ≡ false) }
     {
@@ -153,11 +161,15 @@ impl MemPlace {
         ensures piece { self.new.piece ≡ self.old.piece }
         ensures room { self.new.room ≡ self.old.room }
         ensures write_faults { self.new.write_faults ≡ self.old.write_faults }
-        ensures failed { result ≡ PlaceError.Failed → Rose self.old.read_faults self.new.read_faults }
+        ensures failed { result ≡ PlaceError.Failed
+            → Rose self.old.read_faults self.new.read_faults }
         ensures later { self.old.read_faults ≤ self.new.read_faults }
-        ensures here { result ≡ PlaceError.Failed → times name.now self.new.missed.items ≡ times name.now self.old.missed.items + 1 }
-        ensures later_here { times name.now self.old.missed.items ≤ times name.now self.new.missed.items }
-        ensures elsewhere { (n : List ℕ) → n ≢ name.now → times n self.new.missed.items ≡ times n self.old.missed.items }
+        ensures here { result ≡ PlaceError.Failed
+            → times name.now self.new.missed.items ≡ times name.now self.old.missed.items + 1 }
+        ensures later_here { times name.now self.old.missed.items
+            ≤ times name.now self.new.missed.items }
+        ensures elsewhere { (n : List ℕ) → n ≢ name.now
+            → times n self.new.missed.items ≡ times n self.old.missed.items }
     {
         let alloc = *self.kept.allocator();
         let Ok(text) = String::from_str(alloc, name) else {
@@ -175,47 +187,44 @@ impl Place for MemPlace {
     ghost use Rattle.std.specs.Prelude.{◌≡◌, ◌≢◌, ◌≤◌, ℕ, List, [], true, Some, None, IfOk, OnOk, OnErr, IsErrOf};
     ghost use Rattle.std.specs.FinMap.{get, insert};
     ghost use Rattle.pcg_base.specs.Causes.{Rose, added};
-    ghost use Rattle.pcg_base.specs.Told.{IsFlushed, OpensSource, OpensSink};
+    ghost use Rattle.pcg_base.specs.Told.{IsFlushed, OpensSource, OpensSink, sinks_failed, sources_failed};
     ghost use Rattle.memory_devices.specs.Sources as sources;
     ghost use Rattle.memory_devices.specs.Sinks as sinks;
-    ghost use Rattle.memory_devices.specs.Places.{told_by, counts_by, read_faults_by, write_faults_by, left_by, opened_in_by, opened_out_by, piece_by, room_by, fails_by};
+    ghost use Rattle.memory_devices.specs.Places.{told_by, counts_by, read_faults_by, write_faults_by, left_by, opened_in_by, opened_out_by, piece_by, room_by, fails_by, state_of};
 
     type In = MemSource;
 
     type Out = MemSink;
 
-    ghost files = { λ p. Some (told_by p) };
-
-    ghost read_faults = { λ p. read_faults_by p };
-
-    ghost write_faults = { λ p. write_faults_by p };
-
-    ghost counts = { λ p n. counts_by p n };
-
-    ghost opened_in = { λ p n. opened_in_by p n };
-
-    ghost opened_out = { λ p n. opened_out_by p n };
-
-    ghost left_at = { λ p n. left_by p n };
+    ghost state = { λ p. state_of p };
 
     fn source_of(&mut self, name: &str) -> Result<MemSource, PlaceError>
         ensures later { read_faults_by self.old ≤ read_faults_by self.new }
         ensures other_kind { write_faults_by self.new ≡ write_faults_by self.old }
-        ensures failed { IsErrOf result PlaceError.Failed → Rose (read_faults_by self.old) (read_faults_by self.new) }
+        ensures failed { IsErrOf result PlaceError.Failed
+            → Rose (read_faults_by self.old) (read_faults_by self.new) }
         ensures failed_here { IsErrOf result PlaceError.Failed
-            → Rose (counts_by self.old name.now).source_openings (counts_by self.new name.now).source_openings }
+            → Rose (counts_by self.old name.now).source_openings
+            (counts_by self.new name.now).source_openings }
         ensures still { OnOk result (read_faults_by self.new ≡ read_faults_by self.old) }
-        ensures still_here { OnOk result (counts_by self.new name.now ≡ counts_by self.old name.now) }
-        ensures only_kind { OpensSource (counts_by self.old name.now) (counts_by self.new name.now) }
-        ensures only_here { (n : List ℕ) → n ≢ name.now → counts_by self.new n ≡ counts_by self.old n }
+        ensures still_here { OnOk result (counts_by self.new name.now
+            ≡ counts_by self.old name.now) }
+        ensures only_kind { OpensSource (counts_by self.old name.now)
+            (counts_by self.new name.now) }
+        ensures only_here { (n : List ℕ) → n ≢ name.now
+            → counts_by self.new n ≡ counts_by self.old n }
         ensures files { told_by self.new ≡ told_by self.old }
         ensures left { (n : List ℕ) → left_by self.new n ≡ left_by self.old n }
         ensures fresh { IfOk result (λ s. sources.faults_of s ≡ 0) }
-        ensures bytes { IfOk result (λ s. get (told_by self.old) name.now ≡ Some (sources.left_in s)) }
+        ensures bytes { IfOk result (λ s. get (told_by self.old) name.now
+            ≡ Some (sources.left_in s)) }
         ensures opened { OnOk result (opened_in_by self.new name.now ≡ true) }
-        ensures stays_in { (n : List ℕ) → opened_in_by self.old n ≡ true → opened_in_by self.new n ≡ true }
-        ensures stays_out { (n : List ℕ) → opened_out_by self.old n ≡ true → opened_out_by self.new n ≡ true }
-        ensures missing { IsErrOf result PlaceError.Failed → get (told_by self.old) name.now ≡ None }
+        ensures stays_in { (n : List ℕ) → opened_in_by self.old n ≡ true
+            → opened_in_by self.new n ≡ true }
+        ensures stays_out { (n : List ℕ) → opened_out_by self.old n ≡ true
+            → opened_out_by self.new n ≡ true }
+        ensures missing { IsErrOf result PlaceError.Failed
+            → get (told_by self.old) name.now ≡ None }
         ensures piece { IfOk result (λ s. sources.piece_of s ≡ piece_by self.old) }
         ensures fails { IfOk result (λ s. sources.fails_of s ≡ (fails_by self.old name.now).reads) }
         ensures same_piece { piece_by self.new ≡ piece_by self.old }
@@ -243,14 +252,18 @@ impl Place for MemPlace {
         ensures left { (n : List ℕ) → left_by self.new n ≡ left_by self.old n }
         ensures fresh { IfOk result (λ k. sinks.faults_of k ≡ 0) }
         ensures empty { IfOk result (λ k. sinks.held_in k ≡ []) }
-        ensures flushed { IfOk result (λ k. IsFlushed (Some (sinks.held_in k)) (Some (sinks.flushed_in k))) }
+        ensures flushed { IfOk result
+            (λ k. IsFlushed (Some (sinks.held_in k)) (Some (sinks.flushed_in k))) }
         ensures opened { OnOk result (opened_out_by self.new name.now ≡ true) }
-        ensures stays_in { (n : List ℕ) → opened_in_by self.old n ≡ true → opened_in_by self.new n ≡ true }
-        ensures stays_out { (n : List ℕ) → opened_out_by self.old n ≡ true → opened_out_by self.new n ≡ true }
+        ensures stays_in { (n : List ℕ) → opened_in_by self.old n ≡ true
+            → opened_in_by self.new n ≡ true }
+        ensures stays_out { (n : List ℕ) → opened_out_by self.old n ≡ true
+            → opened_out_by self.new n ≡ true }
         ensures piece { IfOk result (λ k. sinks.piece_of k ≡ piece_by self.old) }
         ensures room { IfOk result (λ k. sinks.room_of k ≡ room_by self.old) }
         ensures fails { IfOk result (λ k. sinks.fails_of k ≡ (fails_by self.old name.now).writes) }
-        ensures flush_fails { IfOk result (λ k. sinks.flush_fails_of k ≡ (fails_by self.old name.now).flushes) }
+        ensures flush_fails { IfOk result (λ k. sinks.flush_fails_of k
+            ≡ (fails_by self.old name.now).flushes) }
         ensures same_piece { piece_by self.new ≡ piece_by self.old }
         ensures same_room { room_by self.new ≡ room_by self.old }
         ensures same_fails { (n : List ℕ) → fails_by self.new n ≡ fails_by self.old n }
@@ -268,18 +281,22 @@ impl Place for MemPlace {
     fn keep_in(&mut self, name: &str, source: MemSource)
         requires { opened_in_by self.old name.now ≡ true }
         ensures later { read_faults_by self.old ≤ read_faults_by self.new }
-        ensures total { read_faults_by self.new ≡ added (read_faults_by self.old) (sources.faults_of source) }
+        ensures total { read_faults_by self.new
+            ≡ added (read_faults_by self.old) (sources.faults_of source) }
         ensures other_kind { write_faults_by self.new ≡ write_faults_by self.old }
-        ensures here { counts_by self.new name.now ≡ record (counts_by self.old name.now) {
-          source_faults = added (counts_by self.old name.now).source_faults (sources.faults_of source);
-        } }
-        ensures later_here { (counts_by self.old name.now).source_faults ≤ (counts_by self.new name.now).source_faults }
-        ensures only_here { (n : List ℕ) → n ≢ name.now → counts_by self.new n ≡ counts_by self.old n }
+        ensures here { counts_by self.new name.now
+            ≡ sources_failed (counts_by self.old name.now) (sources.faults_of source) }
+        ensures later_here { (counts_by self.old name.now).source_faults
+            ≤ (counts_by self.new name.now).source_faults }
+        ensures only_here { (n : List ℕ) → n ≢ name.now
+            → counts_by self.new n ≡ counts_by self.old n }
         ensures files { told_by self.new ≡ told_by self.old }
         ensures left { left_by self.new name.now ≡ sources.left_in source }
         ensures only_left { (n : List ℕ) → n ≢ name.now → left_by self.new n ≡ left_by self.old n }
-        ensures stays_in { (n : List ℕ) → opened_in_by self.old n ≡ true → opened_in_by self.new n ≡ true }
-        ensures stays_out { (n : List ℕ) → opened_out_by self.old n ≡ true → opened_out_by self.new n ≡ true }
+        ensures stays_in { (n : List ℕ) → opened_in_by self.old n ≡ true
+            → opened_in_by self.new n ≡ true }
+        ensures stays_out { (n : List ℕ) → opened_out_by self.old n ≡ true
+            → opened_out_by self.new n ≡ true }
         ensures same_piece { piece_by self.new ≡ piece_by self.old }
         ensures same_room { room_by self.new ≡ room_by self.old }
         ensures same_fails { (n : List ℕ) → fails_by self.new n ≡ fails_by self.old n }
@@ -292,17 +309,21 @@ impl Place for MemPlace {
     fn keep_out(&mut self, name: &str, sink: MemSink)
         requires { opened_out_by self.old name.now ≡ true }
         ensures later { write_faults_by self.old ≤ write_faults_by self.new }
-        ensures total { write_faults_by self.new ≡ added (write_faults_by self.old) (sinks.faults_of sink) }
+        ensures total { write_faults_by self.new
+            ≡ added (write_faults_by self.old) (sinks.faults_of sink) }
         ensures other_kind { read_faults_by self.new ≡ read_faults_by self.old }
-        ensures here { counts_by self.new name.now ≡ record (counts_by self.old name.now) {
-          sink_faults = added (counts_by self.old name.now).sink_faults (sinks.faults_of sink);
-        } }
-        ensures later_here { (counts_by self.old name.now).sink_faults ≤ (counts_by self.new name.now).sink_faults }
-        ensures only_here { (n : List ℕ) → n ≢ name.now → counts_by self.new n ≡ counts_by self.old n }
+        ensures here { counts_by self.new name.now
+            ≡ sinks_failed (counts_by self.old name.now) (sinks.faults_of sink) }
+        ensures later_here { (counts_by self.old name.now).sink_faults
+            ≤ (counts_by self.new name.now).sink_faults }
+        ensures only_here { (n : List ℕ) → n ≢ name.now
+            → counts_by self.new n ≡ counts_by self.old n }
         ensures bytes { told_by self.new ≡ insert (told_by self.old) name.now (sinks.held_in sink) }
         ensures left { (n : List ℕ) → left_by self.new n ≡ left_by self.old n }
-        ensures stays_in { (n : List ℕ) → opened_in_by self.old n ≡ true → opened_in_by self.new n ≡ true }
-        ensures stays_out { (n : List ℕ) → opened_out_by self.old n ≡ true → opened_out_by self.new n ≡ true }
+        ensures stays_in { (n : List ℕ) → opened_in_by self.old n ≡ true
+            → opened_in_by self.new n ≡ true }
+        ensures stays_out { (n : List ℕ) → opened_out_by self.old n ≡ true
+            → opened_out_by self.new n ≡ true }
         ensures same_piece { piece_by self.new ≡ piece_by self.old }
         ensures same_room { room_by self.new ≡ room_by self.old }
         ensures same_fails { (n : List ℕ) → fails_by self.new n ≡ fails_by self.old n }

@@ -108,23 +108,23 @@ impl MemSink {
 impl Sink for MemSink {
     ghost use Rattle.std.specs.Prelude.{◌≡◌, ◌==◌, ◌||◌, ◌-◌, ◌≤◌, ◌<◌, min, length, IfOk, OnOk, OnErr, is_err, Some};
     ghost use Rattle.pcg_base.specs.Told.{IsFlushed};
-    ghost use Rattle.memory_devices.specs.Sinks.{held_in, flushed_in, room_of, piece_of, fails_of, flush_fails_of, calls_of, flushes_of, faults_of};
+    ghost use Rattle.memory_devices.specs.Sinks.{held_in, flushed_in, room_of, piece_of, fails_of, flush_fails_of, calls_of, flushes_of, faults_of, state_of};
 
-    ghost held = { λ k. Some (held_in k) };
-
-    ghost flushed = { λ k. Some (flushed_in k) };
-
-    ghost faults = { λ k. faults_of k };
+    ghost state = { λ k. state_of k };
 
     fn write(&mut self, piece: &[u8]) -> Result<usize, Failed>
         ensures bound { IfOk result (λ n. n ≤ length piece.now) }
         ensures some { 0 < length piece.now → IfOk result (λ n. 0 < n) }
-        ensures bytes { WriteAppends (Some (held_in self.old)) (Some (held_in self.new)) result piece.now }
+        ensures bytes { WriteAppends (Some (held_in self.old)) (Some (held_in self.new)) result
+            piece.now }
         ensures unflushed { flushed_in self.new ≡ flushed_in self.old }
         ensures cause { HasCause (faults_of self.old) (faults_of self.new) result }
         ensures call { calls_of self.new ≡ added (calls_of self.old) 1 }
-        ensures fails { is_err result ≡ (list_any (λ f. f == calls_of self.new) (fails_of self.old) || (room_of self.old == 0)) }
-        ensures count { IfOk result (λ n. n ≡ min (min (length piece.now) (piece_of self.old)) (room_of self.old)) }
+        ensures fails { is_err result
+            ≡ (list_any (λ f. f == calls_of self.new) (fails_of self.old) ||
+            (room_of self.old == 0)) }
+        ensures count { IfOk result (λ n. n
+            ≡ min (min (length piece.now) (piece_of self.old)) (room_of self.old)) }
         ensures room { IfOk result (λ n. room_of self.new ≡ room_of self.old - n) }
         ensures same_piece { piece_of self.new ≡ piece_of self.old }
         ensures same_fails { fails_of self.new ≡ fails_of self.old }
@@ -147,11 +147,13 @@ impl Sink for MemSink {
 
     fn flush(&mut self) -> Result<(), Failed>
         ensures bytes { held_in self.new ≡ held_in self.old }
-        ensures flushed { OnOk result (IsFlushed (Some (held_in self.new)) (Some (flushed_in self.new))) }
+        ensures flushed { OnOk result
+            (IsFlushed (Some (held_in self.new)) (Some (flushed_in self.new))) }
         ensures unflushed { OnErr result (flushed_in self.new ≡ flushed_in self.old) }
         ensures cause { HasCause (faults_of self.old) (faults_of self.new) result }
         ensures call { flushes_of self.new ≡ added (flushes_of self.old) 1 }
-        ensures fails { is_err result ≡ list_any (λ f. f == flushes_of self.new) (flush_fails_of self.old) }
+        ensures fails { is_err result
+            ≡ list_any (λ f. f == flushes_of self.new) (flush_fails_of self.old) }
         ensures room { room_of self.new ≡ room_of self.old }
         ensures calls { calls_of self.new ≡ calls_of self.old }
         ensures same_piece { piece_of self.new ≡ piece_of self.old }

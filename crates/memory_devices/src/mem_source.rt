@@ -78,11 +78,13 @@ impl Source for MemSource {
 
     fn read(&mut self, into: &mut [u8]) -> Result<usize, Failed>
         ensures bound { ReadsAtMost result into.new }
-        ensures bytes { ReadConsumes (Some (left_in self.old)) (Some (left_in self.new)) result into.new }
+        ensures bytes { ReadConsumes (Some (left_in self.old)) (Some (left_in self.new)) result
+            into.new }
         ensures cause { HasCause (faults_of self.old) (faults_of self.new) result }
         ensures call { calls_of self.new ≡ added (calls_of self.old) 1 }
         ensures fails { is_err result ≡ list_any (λ f. f == calls_of self.new) (fails_of self.old) }
-        ensures count { IfOk result (λ n. n ≡ min (min (length (left_in self.old)) (piece_of self.old)) (length into.new)) }
+        ensures count { IfOk result (λ n. n
+            ≡ min (min (length (left_in self.old)) (piece_of self.old)) (length into.new)) }
         ensures same_piece { piece_of self.new ≡ piece_of self.old }
         ensures same_fails { fails_of self.new ≡ fails_of self.old }
     {

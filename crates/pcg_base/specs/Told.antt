@@ -4,6 +4,7 @@ use Rattle.std.specs.Io.KnownBytes.{Consumes}
 use Rattle.std.specs.Ordering.{nat_cmp}
 use Rattle.std.specs.Cmp.Lexicographic.{slice_cmp}
 use Rattle.std.specs.FinMap.{FinMap, get, insert}
+use Rattle.pcg_base.specs.Causes.{added}
 
 -- a map from names, as their bytes, to bytes
 abbrev pub Files : Type 0
@@ -42,6 +43,14 @@ pub record Counts : Type 0 where
   pub sink_openings : ℕ
   pub source_faults : ℕ
   pub sink_faults : ℕ
+
+-- a name's counts, with so many more faults of its sources
+abbrev pub sources_failed : Counts → ℕ → Counts
+sources_failed counts n = record counts { source_faults = added counts.source_faults n }
+
+-- a name's counts, with so many more faults of its sinks
+abbrev pub sinks_failed : Counts → ℕ → Counts
+sinks_failed counts n = record counts { sink_faults = added counts.sink_faults n }
 
 -- of a name's counts at most the failed openings for reading went up
 pub record OpensSource (old new : Counts) : Type 0 where

@@ -1,6 +1,7 @@
-ghost use Rattle.std.specs.Prelude.{◌≡◌, ◌≢◌, ◌≤◌, ℕ, List, [], Bool, true, IfOk, OnOk, OnErr, IsErrOf, Option};
+ghost use Rattle.std.specs.Prelude.{◌≡◌, ◌≤◌, [], true, IfOk, OnOk, OnErr, IsErrOf};
 ghost use Rattle.pcg_base.specs.Causes.{Rose, added};
-ghost use Rattle.pcg_base.specs.Told.{Files, IsFlushed, KeepsFiles, PutsFile, PutsHeld, TellsAt, TellsTo, Counts, OpensSource, OpensSink};
+ghost use Rattle.pcg_base.specs.States.{PlaceState, KeepsLeft, KeepsOtherCounts, KeepsOtherLeft, StaysIn, StaysOut};
+ghost use Rattle.pcg_base.specs.Told.{IsFlushed, KeepsFiles, PutsFile, PutsHeld, TellsAt, TellsTo, OpensSource, OpensSink, sinks_failed, sources_failed};
 
 use crate::traits::{Sink, Source};
 
@@ -25,101 +26,100 @@ pub trait Place {
     /// What a name is written by.
     type Out: Sink + Send;
 
-    /// The bytes at each name, where the place tells them.
-    ghost files: { Self → Option Files };
-
-    /// Failed openings for reading, and the faults of all sources kept.
-    ghost read_faults: { Self → ℕ };
-
-    /// Failed openings for writing, and the faults of all sinks kept.
-    ghost write_faults: { Self → ℕ };
-
-    /// The counts beside a name.
-    ghost counts: { Self → List ℕ → Counts };
-
-    /// Whether a name was opened for reading.
-    ghost opened_in: { Self → List ℕ → Bool };
-
-    /// Whether a name was opened for writing.
-    ghost opened_out: { Self → List ℕ → Bool };
-
-    /// What the last source that was kept at a name had left, in a place that tells its bytes.
-    ghost left_at: { Self → List ℕ → List ℕ };
+    /// What contracts see of the place: the bytes at each name, where it tells them, the counts, and
+    /// which names were opened.
+    ghost state: { Self → PlaceState };
 
     /// Opens a name for reading. `Failed` comes only where both the place's count of faults of
     /// reading and the name's count of failed openings for reading rose. Where it opens no count
     /// rises.
     fn source_of(&mut self, name: &str) -> Result<Self::In, PlaceError>
-        ensures later { read_faults self.old ≤ read_faults self.new }
-        ensures other_kind { write_faults self.new ≡ write_faults self.old }
-        ensures failed { IsErrOf result PlaceError.Failed → Rose (read_faults self.old) (read_faults self.new) }
+        ensures later { (state self.old).reads ≤ (state self.new).reads }
+        ensures other_kind { (state self.new).writes ≡ (state self.old).writes }
+        ensures failed { IsErrOf result PlaceError.Failed
+            → Rose (state self.old).reads (state self.new).reads }
         ensures failed_here { IsErrOf result PlaceError.Failed
-            → Rose (counts self.old name.now).source_openings (counts self.new name.now).source_openings }
-        ensures still { OnOk result (read_faults self.new ≡ read_faults self.old) }
-        ensures still_here { OnOk result (counts self.new name.now ≡ counts self.old name.now) }
-        ensures only_kind { OpensSource (counts self.old name.now) (counts self.new name.now) }
-        ensures only_here { (n : List ℕ) → n ≢ name.now → counts self.new n ≡ counts self.old n }
-        ensures files { KeepsFiles (files self.old) (files self.new) }
-        ensures left { (n : List ℕ) → left_at self.new n ≡ left_at self.old n }
+            → Rose ((state self.old).counts name.now).source_openings
+            ((state self.new).counts name.now).source_openings }
+        ensures still { OnOk result ((state self.new).reads ≡ (state self.old).reads) }
+        ensures still_here { OnOk result ((state self.new).counts name.now
+            ≡ (state self.old).counts name.now) }
+        ensures only_kind { OpensSource ((state self.old).counts name.now)
+            ((state self.new).counts name.now) }
+        ensures only_here { KeepsOtherCounts (state self.old) (state self.new) name.now }
+        ensures files { KeepsFiles (state self.old).files (state self.new).files }
+        ensures left { KeepsLeft (state self.old) (state self.new) }
         ensures fresh { IfOk result (λ s. Self.In.faults s ≡ 0) }
-        ensures bytes { IfOk result (λ s. TellsAt (files self.old) name.now (Self.In.left s)) }
-        ensures opened { OnOk result (opened_in self.new name.now ≡ true) }
-        ensures stays_in { (n : List ℕ) → opened_in self.old n ≡ true → opened_in self.new n ≡ true }
-        ensures stays_out { (n : List ℕ) → opened_out self.old n ≡ true → opened_out self.new n ≡ true };
+        ensures bytes { IfOk result
+            (λ s. TellsAt (state self.old).files name.now (Self.In.left s)) }
+        ensures opened { OnOk result ((state self.new).opened_in name.now ≡ true) }
+        ensures stays_in { StaysIn (state self.old) (state self.new) }
+        ensures stays_out { StaysOut (state self.old) (state self.new) };
 
     /// Opens a name for writing, which has no bytes from then on. `Failed` comes only where both the
     /// place's count of faults of writing and the name's count of failed openings for writing rose.
     /// Where it opens no count rises, and no byte waits for a flush.
     fn sink_of(&mut self, name: &str) -> Result<Self::Out, PlaceError>
-        ensures later { write_faults self.old ≤ write_faults self.new }
-        ensures other_kind { read_faults self.new ≡ read_faults self.old }
-        ensures failed { IsErrOf result PlaceError.Failed → Rose (write_faults self.old) (write_faults self.new) }
+        ensures later { (state self.old).writes ≤ (state self.new).writes }
+        ensures other_kind { (state self.new).reads ≡ (state self.old).reads }
+        ensures failed { IsErrOf result PlaceError.Failed
+            → Rose (state self.old).writes (state self.new).writes }
         ensures failed_here { IsErrOf result PlaceError.Failed
-            → Rose (counts self.old name.now).sink_openings (counts self.new name.now).sink_openings }
-        ensures still { OnOk result (write_faults self.new ≡ write_faults self.old) }
-        ensures still_here { OnOk result (counts self.new name.now ≡ counts self.old name.now) }
-        ensures only_kind { OpensSink (counts self.old name.now) (counts self.new name.now) }
-        ensures only_here { (n : List ℕ) → n ≢ name.now → counts self.new n ≡ counts self.old n }
-        ensures made { OnOk result (PutsFile (files self.old) (files self.new) name.now []) }
-        ensures unmade { OnErr result (KeepsFiles (files self.old) (files self.new)) }
-        ensures left { (n : List ℕ) → left_at self.new n ≡ left_at self.old n }
-        ensures fresh { IfOk result (λ k. Self.Out.faults k ≡ 0) }
-        ensures empty { IfOk result (λ k. TellsTo (files self.old) (Self.Out.held k) []) }
-        ensures flushed { IfOk result (λ k. IsFlushed (Self.Out.held k) (Self.Out.flushed k)) }
-        ensures opened { OnOk result (opened_out self.new name.now ≡ true) }
-        ensures stays_in { (n : List ℕ) → opened_in self.old n ≡ true → opened_in self.new n ≡ true }
-        ensures stays_out { (n : List ℕ) → opened_out self.old n ≡ true → opened_out self.new n ≡ true };
+            → Rose ((state self.old).counts name.now).sink_openings
+            ((state self.new).counts name.now).sink_openings }
+        ensures still { OnOk result ((state self.new).writes ≡ (state self.old).writes) }
+        ensures still_here { OnOk result ((state self.new).counts name.now
+            ≡ (state self.old).counts name.now) }
+        ensures only_kind { OpensSink ((state self.old).counts name.now)
+            ((state self.new).counts name.now) }
+        ensures only_here { KeepsOtherCounts (state self.old) (state self.new) name.now }
+        ensures made { OnOk result
+            (PutsFile (state self.old).files (state self.new).files name.now []) }
+        ensures unmade { OnErr result (KeepsFiles (state self.old).files (state self.new).files) }
+        ensures left { KeepsLeft (state self.old) (state self.new) }
+        ensures fresh { IfOk result (λ k. (Self.Out.state k).faults ≡ 0) }
+        ensures empty { IfOk result
+            (λ k. TellsTo (state self.old).files (Self.Out.state k).held []) }
+        ensures flushed { IfOk result
+            (λ k. IsFlushed (Self.Out.state k).held (Self.Out.state k).flushed) }
+        ensures opened { OnOk result ((state self.new).opened_out name.now ≡ true) }
+        ensures stays_in { StaysIn (state self.old) (state self.new) }
+        ensures stays_out { StaysOut (state self.old) (state self.new) };
 
     /// Keeps a source back at its name: adds its faults to the counts, and notes what it has left.
     fn keep_in(&mut self, name: &str, source: Self::In)
-        requires { opened_in self.old name.now ≡ true }
-        ensures later { read_faults self.old ≤ read_faults self.new }
-        ensures total { read_faults self.new ≡ added (read_faults self.old) (Self.In.faults source) }
-        ensures other_kind { write_faults self.new ≡ write_faults self.old }
-        ensures here { counts self.new name.now ≡ record (counts self.old name.now) {
-          source_faults = added (counts self.old name.now).source_faults (Self.In.faults source);
-        } }
-        ensures later_here { (counts self.old name.now).source_faults ≤ (counts self.new name.now).source_faults }
-        ensures only_here { (n : List ℕ) → n ≢ name.now → counts self.new n ≡ counts self.old n }
-        ensures files { KeepsFiles (files self.old) (files self.new) }
-        ensures left { TellsTo (files self.old) (Self.In.left source) (left_at self.new name.now) }
-        ensures only_left { (n : List ℕ) → n ≢ name.now → left_at self.new n ≡ left_at self.old n }
-        ensures stays_in { (n : List ℕ) → opened_in self.old n ≡ true → opened_in self.new n ≡ true }
-        ensures stays_out { (n : List ℕ) → opened_out self.old n ≡ true → opened_out self.new n ≡ true };
+        requires { (state self.old).opened_in name.now ≡ true }
+        ensures later { (state self.old).reads ≤ (state self.new).reads }
+        ensures total { (state self.new).reads
+            ≡ added (state self.old).reads (Self.In.faults source) }
+        ensures other_kind { (state self.new).writes ≡ (state self.old).writes }
+        ensures here { (state self.new).counts name.now
+            ≡ sources_failed ((state self.old).counts name.now) (Self.In.faults source) }
+        ensures later_here { ((state self.old).counts name.now).source_faults
+            ≤ ((state self.new).counts name.now).source_faults }
+        ensures only_here { KeepsOtherCounts (state self.old) (state self.new) name.now }
+        ensures files { KeepsFiles (state self.old).files (state self.new).files }
+        ensures left { TellsTo (state self.old).files (Self.In.left source)
+            ((state self.new).left name.now) }
+        ensures only_left { KeepsOtherLeft (state self.old) (state self.new) name.now }
+        ensures stays_in { StaysIn (state self.old) (state self.new) }
+        ensures stays_out { StaysOut (state self.old) (state self.new) };
 
     /// Keeps a sink back at its name: adds its faults to the counts, and puts its bytes there.
     fn keep_out(&mut self, name: &str, sink: Self::Out)
-        requires { opened_out self.old name.now ≡ true }
-        ensures later { write_faults self.old ≤ write_faults self.new }
-        ensures total { write_faults self.new ≡ added (write_faults self.old) (Self.Out.faults sink) }
-        ensures other_kind { read_faults self.new ≡ read_faults self.old }
-        ensures here { counts self.new name.now ≡ record (counts self.old name.now) {
-          sink_faults = added (counts self.old name.now).sink_faults (Self.Out.faults sink);
-        } }
-        ensures later_here { (counts self.old name.now).sink_faults ≤ (counts self.new name.now).sink_faults }
-        ensures only_here { (n : List ℕ) → n ≢ name.now → counts self.new n ≡ counts self.old n }
-        ensures bytes { PutsHeld (files self.old) (files self.new) name.now (Self.Out.held sink) }
-        ensures left { (n : List ℕ) → left_at self.new n ≡ left_at self.old n }
-        ensures stays_in { (n : List ℕ) → opened_in self.old n ≡ true → opened_in self.new n ≡ true }
-        ensures stays_out { (n : List ℕ) → opened_out self.old n ≡ true → opened_out self.new n ≡ true };
+        requires { (state self.old).opened_out name.now ≡ true }
+        ensures later { (state self.old).writes ≤ (state self.new).writes }
+        ensures total { (state self.new).writes
+            ≡ added (state self.old).writes (Self.Out.state sink).faults }
+        ensures other_kind { (state self.new).reads ≡ (state self.old).reads }
+        ensures here { (state self.new).counts name.now
+            ≡ sinks_failed ((state self.old).counts name.now) (Self.Out.state sink).faults }
+        ensures later_here { ((state self.old).counts name.now).sink_faults
+            ≤ ((state self.new).counts name.now).sink_faults }
+        ensures only_here { KeepsOtherCounts (state self.old) (state self.new) name.now }
+        ensures bytes { PutsHeld (state self.old).files (state self.new).files name.now
+            (Self.Out.state sink).held }
+        ensures left { KeepsLeft (state self.old) (state self.new) }
+        ensures stays_in { StaysIn (state self.old) (state self.new) }
+        ensures stays_out { StaysOut (state self.old) (state self.new) };
 }

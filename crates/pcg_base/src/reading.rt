@@ -1,6 +1,7 @@
-ghost use Rattle.std.specs.Prelude.{◌≡◌, ◌≢◌, ◌≤◌, ◌<◌, ◌⊎◌, ℕ, List, [], length, IfOk, OnOk, OnErr, IsErrOf, true};
+ghost use Rattle.std.specs.Prelude.{◌≡◌, ◌≤◌, ◌⊎◌, length, IfOk, OnOk, OnErr, IsErrOf};
 ghost use Rattle.std.specs.Io.KnownBytes.{Consumes, IsAtEnd};
 ghost use Rattle.pcg_base.specs.Causes.{Rose};
+ghost use Rattle.pcg_base.specs.States.{KeepsOtherCounts, KeepsOtherLeft, StaysIn, StaysOut};
 ghost use Rattle.pcg_base.specs.Told.{KeepsFiles, TellsAt, LosesFront, LosesMore, IsLonger, IsLongerAt, LeavesNone, ReadsSource};
 
 use crate::place::{Place, PlaceError};
@@ -43,12 +44,19 @@ pub struct Stream {
 /// answers, a front of what was left is gone.
 pub fn read_stream<S: Source>(alloc: Global, from: &mut S, limit: u64) -> Result<Stream, NoMemory>
     ensures size { IfOk result (λ s. length s.bytes.items ≤ limit) }
-    ensures whole { IfOk result (λ s. s.end ≡ StreamEnd.Whole → Consumes (S.left from.old) (S.left from.new) s.bytes.items × IsAtEnd (S.left from.new)) }
-    ensures broken { IfOk result (λ s. s.end ≡ StreamEnd.Broken → Consumes (S.left from.old) (S.left from.new) s.bytes.items × Rose (S.faults from.old) (S.faults from.new)) }
+    ensures whole { IfOk result (λ s. s.end ≡ StreamEnd.Whole
+        → Consumes (S.left from.old) (S.left from.new) s.bytes.items × IsAtEnd (S.left from.new)) }
+    ensures broken { IfOk result (λ s. s.end ≡ StreamEnd.Broken
+        → Consumes (S.left from.old) (S.left from.new) s.bytes.items
+        × Rose (S.faults from.old) (S.faults from.new)) }
     ensures long { IfOk result (λ s. s.end ≡ StreamEnd.TooLong → IsLonger (S.left from.old) limit) }
-    ensures long_bytes { IfOk result (λ s. s.end ≡ StreamEnd.TooLong → (length s.bytes.items ≡ limit) × LosesMore (S.left from.old) (S.left from.new) s.bytes.items) }
-    ensures still { IfOk result (λ s. s.end ≡ StreamEnd.Whole → S.faults from.new ≡ S.faults from.old) }
-    ensures still_long { IfOk result (λ s. s.end ≡ StreamEnd.TooLong → S.faults from.new ≡ S.faults from.old) }
+    ensures long_bytes { IfOk result (λ s. s.end ≡ StreamEnd.TooLong
+        → (length s.bytes.items ≡ limit)
+        × LosesMore (S.left from.old) (S.left from.new) s.bytes.items) }
+    ensures still { IfOk result (λ s. s.end ≡ StreamEnd.Whole
+        → S.faults from.new ≡ S.faults from.old) }
+    ensures still_long { IfOk result (λ s. s.end ≡ StreamEnd.TooLong
+        → S.faults from.new ≡ S.faults from.old) }
     ensures still_refused { OnErr result (S.faults from.new ≡ S.faults from.old) }
     ensures later { S.faults from.old ≤ S.faults from.new }
     ensures front { LosesFront (S.left from.old) (S.left from.new) }
@@ -94,11 +102,13 @@ pub fn read_all<S: Source>(alloc: Global, from: &mut S, limit: u64) -> Result<Ve
     ensures bytes { IfOk result (λ v. Consumes (S.left from.old) (S.left from.new) v.items) }
     ensures end { OnOk result (IsAtEnd (S.left from.new)) }
     ensures size { IfOk result (λ v. length v.items ≤ limit) }
-    ensures failed { IsErrOf result ReadError.Failed → Rose (S.faults from.old) (S.faults from.new) }
+    ensures failed { IsErrOf result ReadError.Failed
+        → Rose (S.faults from.old) (S.faults from.new) }
     ensures long { IsErrOf result ReadError.TooLong → IsLonger (S.left from.old) limit }
     ensures still { OnOk result (S.faults from.new ≡ S.faults from.old) }
     ensures still_long { IsErrOf result ReadError.TooLong → S.faults from.new ≡ S.faults from.old }
-    ensures still_refused { IsErrOf result ReadError.NoMemory → S.faults from.new ≡ S.faults from.old }
+    ensures still_refused { IsErrOf result ReadError.NoMemory → S.faults from.new
+        ≡ S.faults from.old }
     ensures later { S.faults from.old ≤ S.faults from.new }
     ensures front { LosesFront (S.left from.old) (S.left from.new) }
 {
@@ -121,24 +131,31 @@ pub fn read_name<P: Place>(
     name: &str,
     limit: u64,
 ) -> Result<Vec<u8>, ReadError>
-    ensures bytes { IfOk result (λ v. TellsAt (P.files place.old) name.now (Some v.items)) }
+    ensures bytes { IfOk result (λ v. TellsAt (P.state place.old).files name.now (Some v.items)) }
     ensures size { IfOk result (λ v. length v.items ≤ limit) }
-    ensures end { OnOk result (LeavesNone (P.files place.old) (P.left_at place.new name.now)) }
-    ensures long { IsErrOf result ReadError.TooLong → IsLongerAt (P.files place.old) name.now limit }
-    ensures failed { IsErrOf result ReadError.Failed → Rose (P.read_faults place.old) (P.read_faults place.new) }
+    ensures end { OnOk result
+        (LeavesNone (P.state place.old).files ((P.state place.new).left name.now)) }
+    ensures long { IsErrOf result ReadError.TooLong
+        → IsLongerAt (P.state place.old).files name.now limit }
+    ensures failed { IsErrOf result ReadError.Failed
+        → Rose (P.state place.old).reads (P.state place.new).reads }
     ensures failed_here { IsErrOf result ReadError.Failed
-        → (Rose (P.counts place.old name.now).source_openings (P.counts place.new name.now).source_openings
-        ⊎ Rose (P.counts place.old name.now).source_faults (P.counts place.new name.now).source_faults) }
-    ensures still { OnOk result (P.read_faults place.new ≡ P.read_faults place.old) }
-    ensures still_here { OnOk result (P.counts place.new name.now ≡ P.counts place.old name.now) }
-    ensures later { P.read_faults place.old ≤ P.read_faults place.new }
-    ensures other_kind { P.write_faults place.new ≡ P.write_faults place.old }
-    ensures only_kind { ReadsSource (P.counts place.old name.now) (P.counts place.new name.now) }
-    ensures only_here { (n : List ℕ) → n ≢ name.now → P.counts place.new n ≡ P.counts place.old n }
-    ensures files { KeepsFiles (P.files place.old) (P.files place.new) }
-    ensures only_left { (n : List ℕ) → n ≢ name.now → P.left_at place.new n ≡ P.left_at place.old n }
-    ensures stays_in { (n : List ℕ) → P.opened_in place.old n ≡ true → P.opened_in place.new n ≡ true }
-    ensures stays_out { (n : List ℕ) → P.opened_out place.old n ≡ true → P.opened_out place.new n ≡ true }
+        → (Rose ((P.state place.old).counts name.now).source_openings
+        ((P.state place.new).counts name.now).source_openings
+        ⊎ Rose ((P.state place.old).counts name.now).source_faults
+        ((P.state place.new).counts name.now).source_faults) }
+    ensures still { OnOk result ((P.state place.new).reads ≡ (P.state place.old).reads) }
+    ensures still_here { OnOk result ((P.state place.new).counts name.now
+        ≡ (P.state place.old).counts name.now) }
+    ensures later { (P.state place.old).reads ≤ (P.state place.new).reads }
+    ensures other_kind { (P.state place.new).writes ≡ (P.state place.old).writes }
+    ensures only_kind { ReadsSource ((P.state place.old).counts name.now)
+        ((P.state place.new).counts name.now) }
+    ensures only_here { KeepsOtherCounts (P.state place.old) (P.state place.new) name.now }
+    ensures files { KeepsFiles (P.state place.old).files (P.state place.new).files }
+    ensures only_left { KeepsOtherLeft (P.state place.old) (P.state place.new) name.now }
+    ensures stays_in { StaysIn (P.state place.old) (P.state place.new) }
+    ensures stays_out { StaysOut (P.state place.old) (P.state place.new) }
 {
     let mut source = match place.source_of(name) {
         Ok(source) => source,

@@ -2,6 +2,7 @@ ghost use Rattle.std.specs.Prelude.{◌≡◌, ◌≤◌, ◌<◌, ℕ, List, le
 ghost use Rattle.std.specs.Io.{ReadsAtMost};
 ghost use Rattle.std.specs.Io.KnownBytes.{ReadConsumes, WriteAppends, Keeps};
 ghost use Rattle.pcg_base.specs.Causes.{HasCause};
+ghost use Rattle.pcg_base.specs.States.{SinkState};
 ghost use Rattle.pcg_base.specs.Told.{IsFlushed};
 
 /// A read or a write failed. It comes only where the count of faults of the object that was
@@ -32,15 +33,10 @@ pub trait Source {
 
 /// A stream of bytes that go out.
 pub trait Sink {
-    /// The bytes that it holds, where the sink tells them.
-    ghost held: { Self → Option (List ℕ) };
-
-    /// The bytes that it held at its last flush that did not fail, where the sink tells them. A sink
-    /// that tells what it holds tells these after such a flush.
-    ghost flushed: { Self → Option (List ℕ) };
-
-    /// How often it has failed.
-    ghost faults: { Self → ℕ };
+    /// What contracts see of the sink: the bytes that it holds and those that it held at its last
+    /// flush that did not fail, where it tells them, and how often it has failed. A sink that tells
+    /// what it holds tells the flushed bytes after such a flush.
+    ghost state: { Self → SinkState };
 
     /// Takes bytes off the front of the piece, and answers how many: at least one of a piece that
     /// isn't empty. After `Failed` what is held is as it was. It flushes nothing, and the count of
@@ -48,15 +44,15 @@ pub trait Sink {
     fn write(&mut self, piece: &[u8]) -> Result<usize, Failed>
         ensures bound { IfOk result (λ n. n ≤ length piece.now) }
         ensures some { 0 < length piece.now → IfOk result (λ n. 0 < n) }
-        ensures bytes { WriteAppends (held self.old) (held self.new) result piece.now }
-        ensures unflushed { flushed self.new ≡ flushed self.old }
-        ensures cause { HasCause (faults self.old) (faults self.new) result };
+        ensures bytes { WriteAppends (state self.old).held (state self.new).held result piece.now }
+        ensures unflushed { (state self.new).flushed ≡ (state self.old).flushed }
+        ensures cause { HasCause (state self.old).faults (state self.new).faults result };
 
     /// Hands on all that was written, or fails. It changes no byte that is held. The count of faults
     /// rises where it answers `Failed` and nowhere else.
     fn flush(&mut self) -> Result<(), Failed>
-        ensures bytes { Keeps (held self.old) (held self.new) }
-        ensures flushed { OnOk result (IsFlushed (held self.new) (flushed self.new)) }
-        ensures unflushed { OnErr result (flushed self.new ≡ flushed self.old) }
-        ensures cause { HasCause (faults self.old) (faults self.new) result };
+        ensures bytes { Keeps (state self.old).held (state self.new).held }
+        ensures flushed { OnOk result (IsFlushed (state self.new).held (state self.new).flushed) }
+        ensures unflushed { OnErr result ((state self.new).flushed ≡ (state self.old).flushed) }
+        ensures cause { HasCause (state self.old).faults (state self.new).faults result };
 }
