@@ -111,7 +111,8 @@ fn name_of(file: FileName) -> &'static [u8]
 
 /// Puts the fault line of a file.
 fn put_file<K: Sink>(page: &mut Page, out: &mut K, client: u32, fault: &[u8], file: FileName)
-    ensures { Puts (K.held out.old) (K.held out.new) (K.faults out.old) (K.faults out.new) page.old page.new (of_file client fault.now file) }
+    ensures { Puts (K.state out.old) (K.state out.new) page.old page.new
+        (of_file client fault.now file) }
 {
     page.put_number(out, b"{\"client\":", client as u64);
     page.put_word(out, b",\"fault\":", fault);
@@ -135,7 +136,8 @@ fn table_name_of(table: Table) -> &'static [u8]
 
 /// Puts the fault line of a record of a table.
 fn put_record<K: Sink>(page: &mut Page, out: &mut K, table: Table, row: u64, cause: Cause)
-    ensures { Puts (K.held out.old) (K.held out.new) (K.faults out.old) (K.faults out.new) page.old page.new (of_table table row cause) }
+    ensures { Puts (K.state out.old) (K.state out.new) page.old page.new
+        (of_table table row cause) }
 {
     page.put_word(out, b"{\"cause\":", cause_name_of(cause));
     page.put_word(out, b",\"fault\":", b"BadTable");
@@ -146,7 +148,7 @@ fn put_record<K: Sink>(page: &mut Page, out: &mut K, table: Table, row: u64, cau
 
 /// Puts the fault line of a word of the schedule.
 fn put_bad_word<K: Sink>(page: &mut Page, out: &mut K, word: u64)
-    ensures { Puts (K.held out.old) (K.held out.new) (K.faults out.old) (K.faults out.new) page.old page.new (of_word word) }
+    ensures { Puts (K.state out.old) (K.state out.new) page.old page.new (of_word word) }
 {
     page.put_word(out, b"{\"fault\":", b"BadSchedule");
     page.put_number(out, b",\"word\":", word);
@@ -155,7 +157,7 @@ fn put_bad_word<K: Sink>(page: &mut Page, out: &mut K, word: u64)
 
 /// Puts the fault line of a chunk with too many nodes.
 fn put_spent<K: Sink>(page: &mut Page, out: &mut K, layer: u8, x: u32, y: u32, z: u32)
-    ensures { Puts (K.held out.old) (K.held out.new) (K.faults out.old) (K.faults out.new) page.old page.new (of_chunk layer x y z) }
+    ensures { Puts (K.state out.old) (K.state out.new) page.old page.new (of_chunk layer x y z) }
 {
     page.put_word(out, b"{\"fault\":", b"IdsSpent");
     page.put_number(out, b",\"layer\":", layer as u64);
@@ -167,7 +169,7 @@ fn put_spent<K: Sink>(page: &mut Page, out: &mut K, layer: u8, x: u32, y: u32, z
 
 /// Puts the fault line of a base that needs too many records.
 fn put_small<K: Sink>(page: &mut Page, out: &mut K, need: u64, given: u32)
-    ensures { Puts (K.held out.old) (K.held out.new) (K.faults out.old) (K.faults out.new) page.old page.new (of_capacity need given) }
+    ensures { Puts (K.state out.old) (K.state out.new) page.old page.new (of_capacity need given) }
 {
     page.put_word(out, b"{\"fault\":", b"TooSmall");
     page.put_number(out, b",\"given\":", given as u64);
@@ -178,7 +180,7 @@ fn put_small<K: Sink>(page: &mut Page, out: &mut K, need: u64, given: u32)
 /// Puts the fault line of a stop.
 #[tactic(auto, unfolding(crate::specs::Texts::stop_text))]
 fn put_stop<K: Sink>(page: &mut Page, out: &mut K, stop: Stop)
-    ensures { Puts (K.held out.old) (K.held out.new) (K.faults out.old) (K.faults out.new) page.old page.new (stop_text stop) }
+    ensures { Puts (K.state out.old) (K.state out.new) page.old page.new (stop_text stop) }
 {
     match stop {
         Stop::BadWords => page.put(out, b"{\"fault\":\"BadWords\"}\n"),
@@ -197,10 +199,12 @@ fn put_stop<K: Sink>(page: &mut Page, out: &mut K, stop: Stop)
 /// flushed. After `Failed` a front of it was written.
 #[tactic(auto, using(request_lines::proofs::Whole::whole_ok))]
 pub fn write_stop<K: Sink>(stop: Stop, out: &mut K) -> Result<(), Failed>
-    ensures ok { OnOk result (Appends (K.held out.old) (K.held out.new) (stop_text stop)) }
-    ensures err { OnErr result (AppendsFront (K.held out.old) (K.held out.new) (stop_text stop)) }
-    ensures flushed { OnOk result (IsFlushed (K.held out.new) (K.flushed out.new)) }
-    ensures cause { HasCause (K.faults out.old) (K.faults out.new) result }
+    ensures ok { OnOk result
+        (Appends (K.state out.old).held (K.state out.new).held (stop_text stop)) }
+    ensures err { OnErr result
+        (AppendsFront (K.state out.old).held (K.state out.new).held (stop_text stop)) }
+    ensures flushed { OnOk result (IsFlushed (K.state out.new).held (K.state out.new).flushed) }
+    ensures cause { HasCause (K.state out.old).faults (K.state out.new).faults result }
 {
     let mut page = Page::new();
     put_stop(&mut page, out, stop);

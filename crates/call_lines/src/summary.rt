@@ -92,7 +92,8 @@ impl Written for ClientFault {
 /// Puts a summary.
 #[tactic(auto, unfolding(crate::specs::Texts::summary_line))]
 fn put_summary<K: Sink>(page: &mut Page, out: &mut K, summary: &Summary)
-    ensures { Puts (K.held out.old) (K.held out.new) (K.faults out.old) (K.faults out.new) page.old page.new (summary_text summary.now) }
+    ensures { Puts (K.state out.old) (K.state out.new) page.old page.new
+        (summary_text summary.now) }
 {
     page.put_number(out, b"{\"accepted\":", summary.accepted as u64);
     page.put_number(out, b",\"clients\":", summary.clients as u64);
@@ -111,10 +112,12 @@ fn put_summary<K: Sink>(page: &mut Page, out: &mut K, summary: &Summary)
 /// flushed. After `Failed` a front of it was written.
 #[tactic(auto, using(request_lines::proofs::Whole::whole_ok))]
 pub fn write_summary<K: Sink>(summary: &Summary, out: &mut K) -> Result<(), Failed>
-    ensures ok { OnOk result (Appends (K.held out.old) (K.held out.new) (summary_text summary.now)) }
-    ensures err { OnErr result (AppendsFront (K.held out.old) (K.held out.new) (summary_text summary.now)) }
-    ensures flushed { OnOk result (IsFlushed (K.held out.new) (K.flushed out.new)) }
-    ensures cause { HasCause (K.faults out.old) (K.faults out.new) result }
+    ensures ok { OnOk result
+        (Appends (K.state out.old).held (K.state out.new).held (summary_text summary.now)) }
+    ensures err { OnErr result
+        (AppendsFront (K.state out.old).held (K.state out.new).held (summary_text summary.now)) }
+    ensures flushed { OnOk result (IsFlushed (K.state out.new).held (K.state out.new).flushed) }
+    ensures cause { HasCause (K.state out.old).faults (K.state out.new).faults result }
 {
     let mut page = Page::new();
     put_summary(&mut page, out, summary);

@@ -3,6 +3,7 @@ use Rattle.std.proofs.Common.{◌≡◌, ℕ, suc, Bool, true, false, ◌&&◌, 
 use Rattle.std.specs.Prelude.{slice_get, ◌==◌}
 use Rattle.std.proofs.lemmas.Bool.{eqb-true, false≢true}
 use Rattle.std.proofs.lemmas.List.{append-nil, length-reverse}
+use Rattle.pcg_base.specs.States.{SinkState}
 use Rattle.op_model.specs.declared.base.Dataset.{Dataset}
 use Rattle.op_model.specs.declared.base.Base.{Base}
 use Rattle.op_model.specs.declared.entry.Entry.{Entry}
@@ -54,11 +55,11 @@ module _ (d : Dataset) (b : Base) where
       let whole : reverse s.asked ≡ all = sym (append-nil (reverse s.asked)) ∙ (ap (λ x. reverse s.asked ++ x) (sym t.0) ∙ e) in
       as_many log i s.asked s.replies s.own t.1.0 t.1.2 ∙ (sym (length-reverse s.asked) ∙ ap length whole)
 
-  pub each_replied : {K : Type 0} (held : K → Option (List ℕ)) (faults : K → ℕ) (old new : List (ClientAnswers K)) (at : ℕ) (clients : List (List Line × Bool)) (v : State)
-      → Played d b at clients v → LogAgrees d b v → AllAnswered held faults old new v.clients
+  pub each_replied : {K : Type 0} (state : K → SinkState) (old new : List (ClientAnswers K)) (at : ℕ) (clients : List (List Line × Bool)) (v : State)
+      → Played d b at clients v → LogAgrees d b v → AllAnswered state old new v.clients
       → (k : ℕ) (s : ClientState) (y : ClientAnswers K) (l : List Line × Bool) → slice_get v.clients k ≡ Some s → slice_get new k ≡ Some y → slice_get clients k ≡ Some l
       → y.failed ≡ false → length s.replies ≡ length l.0
-  each_replied held faults old new at clients v p o a k s y l c n q f =
+  each_replied state old new at clients v p o a k s y l c n q f =
       let m = a k s c in
       let i : m.1 ≡ y = cc in
       let z = p.lines k s c in

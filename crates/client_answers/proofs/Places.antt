@@ -3,6 +3,7 @@ use Rattle.std.proofs.Common.{◌≡◌, ℕ, zero, suc, pred, ◌+◌, ◌-◌,
 use Rattle.std.specs.Prelude.{slice_get, slice_set, Result, Ok, Err, OnOk, OnErr}
 use Rattle.op_model.specs.declared.reply.Reply.{Reply}
 use Rattle.pcg_base.specs.Causes.{HasCause, Rose}
+use Rattle.pcg_base.specs.States.{SinkState}
 use Rattle.client_answers.specs.declared.answers.ClientAnswers.{ClientAnswers}
 use Rattle.client_answers.specs.declared.answers.AllAnswers.{AllAnswers}
 use Rattle.client_answers.specs.Answers.{AtClient, fault_sum}
@@ -29,18 +30,18 @@ module _ {K : Type 0} where
       let there : slice_get old.list.items (pred client) ≡ Some x = subst (λ n. slice_get old.list.items n ≡ Some x) k (item_at old.list.items place d l ∙ ap (λ y. Some y) (sym at)) in
       rw there (z, p, set ∙ ap (λ n. slice_set old.list.items n z) k)
 
-  sum_set : (faults : K → ℕ) (xs : List (ClientAnswers K)) (k : ℕ) (z d : ClientAnswers K) → k < length xs
-      → fault_sum faults (slice_set xs k z) + faults (get_or xs k d).sink ≡ fault_sum faults xs + faults z.sink
+  sum_set : (state : K → SinkState) (xs : List (ClientAnswers K)) (k : ℕ) (z d : ClientAnswers K) → k < length xs
+      → fault_sum state (slice_set xs k z) + (state (get_or xs k d).sink).faults ≡ fault_sum state xs + (state z.sink).faults
   unfolding fault_sum
-  sum_set faults [] k z d l = absurd (omega (arith, l))
-  sum_set faults (x ∷ xs) zero z d l = omega arith
-  sum_set faults (x ∷ xs) (suc k) z d l = let h = sum_set faults xs k z d (omega (arith, l)) in omega (arith, h)
+  sum_set state [] k z d l = absurd (omega (arith, l))
+  sum_set state (x ∷ xs) zero z d l = omega arith
+  sum_set state (x ∷ xs) (suc k) z d l = let h = sum_set state xs k z d (omega (arith, l)) in omega (arith, h)
 
-  part_low : (faults : K → ℕ) (xs : List (ClientAnswers K)) (k : ℕ) (d : ClientAnswers K) → k < length xs → faults (get_or xs k d).sink ≤ fault_sum faults xs
+  part_low : (state : K → SinkState) (xs : List (ClientAnswers K)) (k : ℕ) (d : ClientAnswers K) → k < length xs → (state (get_or xs k d).sink).faults ≤ fault_sum state xs
   unfolding fault_sum
-  part_low faults [] k d l = absurd (omega (arith, l))
-  part_low faults (x ∷ xs) zero d l = omega arith
-  part_low faults (x ∷ xs) (suc k) d l = let h = part_low faults xs k d (omega (arith, l)) in omega (arith, h)
+  part_low state [] k d l = absurd (omega (arith, l))
+  part_low state (x ∷ xs) zero d l = omega arith
+  part_low state (x ∷ xs) (suc k) d l = let h = part_low state xs k d (omega (arith, l)) in omega (arith, h)
 
 -- a part of a sum rose, and so did the sum
 rose_all : (a b m n : ℕ) → m + a ≡ n + b → a ≤ n → Rose a b → Rose n m
@@ -55,13 +56,13 @@ failed_all a b m n (Ok v) s l h = tt
 failed_all a b m n (Err e) s l h = rose_all a b m n s l h
 
 module _ {K : Type 0} where
-  pub cause_all : {T E : Type 0} (faults : K → ℕ) (xs : List (ClientAnswers K)) (k : ℕ) (x z d : ClientAnswers K) (result : Result T E) → k < length xs → x ≡ get_or xs k d
-      → HasCause (faults x.sink) (faults z.sink) result → HasCause (fault_sum faults xs) (fault_sum faults (slice_set xs k z)) result
-  cause_all faults xs k x z d result l at h =
-      let s : fault_sum faults (slice_set xs k z) + faults x.sink ≡ fault_sum faults xs + faults z.sink = subst (λ y. fault_sum faults (slice_set xs k z) + faults y.sink ≡ fault_sum faults xs + faults z.sink) (sym at) (sum_set faults xs k z d l) in
-      let low : faults x.sink ≤ fault_sum faults xs = subst (λ y. faults y.sink ≤ fault_sum faults xs) (sym at) (part_low faults xs k d l) in
+  pub cause_all : {T E : Type 0} (state : K → SinkState) (xs : List (ClientAnswers K)) (k : ℕ) (x z d : ClientAnswers K) (result : Result T E) → k < length xs → x ≡ get_or xs k d
+      → HasCause (state x.sink).faults (state z.sink).faults result → HasCause (fault_sum state xs) (fault_sum state (slice_set xs k z)) result
+  cause_all state xs k x z d result l at h =
+      let s : fault_sum state (slice_set xs k z) + (state x.sink).faults ≡ fault_sum state xs + (state z.sink).faults = subst (λ y. fault_sum state (slice_set xs k z) + (state y.sink).faults ≡ fault_sum state xs + (state z.sink).faults) (sym at) (sum_set state xs k z d l) in
+      let low : (state x.sink).faults ≤ fault_sum state xs = subst (λ y. (state y.sink).faults ≤ fault_sum state xs) (sym at) (part_low state xs k d l) in
       record {
         later = (let b = h.later in omega (arith, s, b));
-        still = still_all (faults x.sink) (faults z.sink) (fault_sum faults (slice_set xs k z)) (fault_sum faults xs) result s h.still;
-        failed = failed_all (faults x.sink) (faults z.sink) (fault_sum faults (slice_set xs k z)) (fault_sum faults xs) result s low h.failed;
+        still = still_all (state x.sink).faults (state z.sink).faults (fault_sum state (slice_set xs k z)) (fault_sum state xs) result s h.still;
+        failed = failed_all (state x.sink).faults (state z.sink).faults (fault_sum state (slice_set xs k z)) (fault_sum state xs) result s low h.failed;
       }

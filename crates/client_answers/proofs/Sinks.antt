@@ -8,6 +8,7 @@ use Rattle.op_model.specs.declared.reply.Reply.{Reply}
 use Rattle.op_model.proofs.TranscriptLemmas.{reverse_more}
 use Rattle.request_lines.specs.Texts.{text_of_reply}
 use Rattle.pcg_base.specs.Causes.{Rose}
+use Rattle.pcg_base.specs.States.{SinkState}
 use Rattle.pcg_base.specs.Told.{AppendsFront}
 use Rattle.session_machine.specs.Machine.{ClientState, Ended, Ready}
 use Rattle.client_answers.specs.declared.answers.ClientAnswers.{ClientAnswers}
@@ -68,9 +69,9 @@ turned r rs written l n e =
 not_both : {A : Type 0} (s : ClientState) → s.phase ≡ Ready → s.phase ≡ Ended → A
 not_both s p q = let e : Ready ≡ Ended = sym p ∙ q in cc
 
-module _ {K : Type 0} (held : K → Option (List ℕ)) (faults : K → ℕ) where
+module _ {K : Type 0} (state : K → SinkState) where
   -- before the first reply
-  pub fresh : (x : ClientAnswers K) (s : ClientState) → IsFresh x → s.replies ≡ [] → s.phase ≡ Ready → Answered held faults x x s
+  pub fresh : (x : ClientAnswers K) (s : ClientState) → IsFresh x → s.replies ≡ [] → s.phase ≡ Ready → Answered state x x s
   fresh x s f e p =
       record {
         written = [];
@@ -79,14 +80,14 @@ module _ {K : Type 0} (held : K → Option (List ℕ)) (faults : K → ℕ) wher
         broke = f.failed;
         ended = λ q. absurd (false≢true (sym f.failed ∙ q));
         drained = λ q n. not_both s p n;
-        texts = subst (λ t. Appends (held x.sink) (held x.sink) t) (sym texts_none) (appends_none (held x.sink));
-        faults_so = subst (λ t. FaultsSo (faults x.sink) (faults x.sink) t) (sym f.failed) refl;
+        texts = subst (λ t. Appends (state x.sink).held (state x.sink).held t) (sym texts_none) (appends_none (state x.sink).held);
+        faults_so = subst (λ t. FaultsSo (state x.sink).faults (state x.sink).faults t) (sym f.failed) refl;
         lines = f.lines;
         refused = f.refused;
       }
 
   -- the client goes on without a reply
-  pub kept : (x y : ClientAnswers K) (s t : ClientState) → Answered held faults x y s → t.replies ≡ s.replies → (t.phase ≡ Ended → t.lines ≡ []) → y.failed ≡ false → Answered held faults x y t
+  pub kept : (x y : ClientAnswers K) (s t : ClientState) → Answered state x y s → t.replies ≡ s.replies → (t.phase ≡ Ended → t.lines ≡ []) → y.failed ≡ false → Answered state x y t
   kept x y s t a e n f =
       record {
         written = a.written;
@@ -101,15 +102,15 @@ module _ {K : Type 0} (held : K → Option (List ℕ)) (faults : K → ℕ) wher
         refused = a.refused;
       }
 
-  whole : (x y : ClientAnswers K) (s : ClientState) (a : Answered held faults x y s) → y.failed ≡ false → Appends (held x.sink) (held y.sink) (texts a.written)
-  whole x y s a f = subst (λ l. HasTexts (held x.sink) (held y.sink) a.written l) (none_left a.last (sym f ∙ a.broke)) a.texts
+  whole : (x y : ClientAnswers K) (s : ClientState) (a : Answered state x y s) → y.failed ≡ false → Appends (state x.sink).held (state y.sink).held (texts a.written)
+  whole x y s a f = subst (λ l. HasTexts (state x.sink).held (state y.sink).held a.written l) (none_left a.last (sym f ∙ a.broke)) a.texts
 
-  still : (x y : ClientAnswers K) (s : ClientState) → Answered held faults x y s → y.failed ≡ false → faults y.sink ≡ faults x.sink
-  still x y s a f = subst (λ t. FaultsSo (faults x.sink) (faults y.sink) t) f a.faults_so
+  still : (x y : ClientAnswers K) (s : ClientState) → Answered state x y s → y.failed ≡ false → (state y.sink).faults ≡ (state x.sink).faults
+  still x y s a f = subst (λ t. FaultsSo (state x.sink).faults (state y.sink).faults t) f a.faults_so
 
   -- a reply was written
-  pub put : (x y z : ClientAnswers K) (s t : ClientState) (r : Reply) → Answered held faults x y s → y.failed ≡ false → IsWritten held faults y r z → t.replies ≡ r ∷ s.replies → t.phase ≡ Ready
-      → Answered held faults x z t
+  pub put : (x y z : ClientAnswers K) (s t : ClientState) (r : Reply) → Answered state x y s → y.failed ≡ false → IsWritten state y r z → t.replies ≡ r ∷ s.replies → t.phase ≡ Ready
+      → Answered state x z t
   put x y z s t r a f w e p =
       record {
         written = a.written ++ r ∷ [];
@@ -118,8 +119,8 @@ module _ {K : Type 0} (held : K → Option (List ℕ)) (faults : K → ℕ) wher
         broke = w.failed ∙ f;
         ended = λ q. absurd (false≢true (sym (w.failed ∙ f) ∙ q));
         drained = λ q n. not_both t p n;
-        texts = behind (held x.sink) (held y.sink) (held z.sink) (texts a.written) (text_of_reply r) (texts (a.written ++ r ∷ [])) (texts_more a.written r) (whole x y s a f) w.text;
-        faults_so = subst (λ b. FaultsSo (faults x.sink) (faults z.sink) b) (sym (w.failed ∙ f)) (w.still ∙ still x y s a f);
+        texts = behind (state x.sink).held (state y.sink).held (state z.sink).held (texts a.written) (text_of_reply r) (texts (a.written ++ r ∷ [])) (texts_more a.written r) (whole x y s a f) w.text;
+        faults_so = subst (λ b. FaultsSo (state x.sink).faults (state z.sink).faults b) (sym (w.failed ∙ f)) (w.still ∙ still x y s a f);
         lines = w.lines ∙ (ap one_more a.lines ∙ (counted_more (length a.written) ∙ ap counted (sym (longer a.written))));
         refused = refused_more (count_by refuses a.written) y.refused z.refused (refuses r) a.refused w.refused ∙ ap counted (sym (counts_more a.written r));
       }
@@ -128,8 +129,8 @@ module _ {K : Type 0} (held : K → Option (List ℕ)) (faults : K → ℕ) wher
       longer rs = let n = length-append rs (r ∷ []) in omega (arith, n)
 
   -- the writing of a reply failed, and the client ended
-  pub missed : (x y z : ClientAnswers K) (s t : ClientState) (r : Reply) → Answered held faults x y s → y.failed ≡ false → IsBroken held faults y r z → t.replies ≡ r ∷ s.replies → t.phase ≡ Ended
-      → Answered held faults x z t
+  pub missed : (x y z : ClientAnswers K) (s t : ClientState) (r : Reply) → Answered state x y s → y.failed ≡ false → IsBroken state y r z → t.replies ≡ r ∷ s.replies → t.phase ≡ Ended
+      → Answered state x z t
   missed x y z s t r a f w e end =
       record {
         written = a.written;
@@ -138,8 +139,8 @@ module _ {K : Type 0} (held : K → Option (List ℕ)) (faults : K → ℕ) wher
         broke = w.failed;
         ended = λ q. end;
         drained = λ q n. absurd (false≢true (sym q ∙ w.failed));
-        texts = front_behind (held x.sink) (held y.sink) (held z.sink) (texts a.written) r (whole x y s a f) w.text;
-        faults_so = subst (λ b. FaultsSo (faults x.sink) (faults z.sink) b) (sym w.failed) (subst (λ n. Rose n (faults z.sink)) (still x y s a f) w.rose);
+        texts = front_behind (state x.sink).held (state y.sink).held (state z.sink).held (texts a.written) r (whole x y s a f) w.text;
+        faults_so = subst (λ b. FaultsSo (state x.sink).faults (state z.sink).faults b) (sym w.failed) (subst (λ n. Rose n (state z.sink).faults) (still x y s a f) w.rose);
         lines = w.lines ∙ a.lines;
         refused = w.refused ∙ a.refused;
       }

@@ -4,6 +4,7 @@ use Rattle.std.specs.Prelude.{slice_get, slice_set}
 use Rattle.std.specs.List.{AllByRecursion}
 use Rattle.std.proofs.lemmas.Bool.{false≢true}
 use Rattle.std.proofs.lemmas.List.{length-set}
+use Rattle.pcg_base.specs.States.{SinkState}
 use Rattle.pcg_base.specs.Causes.{Rose}
 use Rattle.pcg_base.specs.declared.clock.Ticks.{Ticks}
 use Rattle.op_model.specs.declared.base.Dataset.{Dataset}
@@ -41,16 +42,16 @@ unbroken : (sh : Shared) (s : ClientState) (t : Bool) → (t ≡ true → s.phas
 unbroken sh s false e a = refl
 unbroken sh s true e a = absurd (false≢true (sym (ap (is_able sh s) (e refl)) ∙ a))
 
-module _ {K : Type 0} (held : K → Option (List ℕ)) (faults : K → ℕ) (d : Dataset) (b : Base) (ticks : Ticks) (old : List (ClientAnswers K)) where
+module _ {K : Type 0} (state : K → SinkState) (d : Dataset) (b : Base) (ticks : Ticks) (old : List (ClientAnswers K)) where
   -- what is answered of one client behind an event of it, and that the others' answers stayed
   pub record Evented (x : ClientAnswers K) (a a2 : AllAnswers K) (k : ℕ) (s : ClientState) : Type 0 where
     pub now : ClientAnswers K
     pub here : slice_get a2.list.items k ≡ Some now
     pub others : (j : ℕ) → j ≢ k → slice_get a2.list.items j ≡ slice_get a.list.items j
     pub count : length a2.list.items ≡ length a.list.items
-    pub answered : Answered held faults x now s
+    pub answered : Answered state x now s
 
-  module _ (x y : ClientAnswers K) (rose : Type 0) (a a2 : AllAnswers K) (c : Choice) (n : ℕ) (sh : Shared) (s : ClientState) (at : slice_get a.list.items (pred n) ≡ Some y) (was : Answered held faults x y s) (f : y.failed ≡ false) where
+  module _ (x y : ClientAnswers K) (rose : Type 0) (a a2 : AllAnswers K) (c : Choice) (n : ℕ) (sh : Shared) (s : ClientState) (at : slice_get a.list.items (pred n) ≡ Some y) (was : Answered state x y s) (f : y.failed ≡ false) where
     quiet : (p : Phase) → ((r : Reply) → p ≡ Replying r → ⊥) → a2 ≡ a → Evented x a a2 (pred n) (event d b c (suc (pred n)) sh s p).1
     quiet p other e =
         record {
@@ -58,14 +59,14 @@ module _ {K : Type 0} (held : K → Option (List ℕ)) (faults : K → ℕ) (d :
           here = subst (λ m. slice_get m.list.items (pred n) ≡ Some y) (sym e) at;
           others = λ j m. ap (λ m. slice_get m.list.items j) e;
           count = ap (λ m. length m.list.items) e;
-          answered = kept held faults x y s (event d b c (suc (pred n)) sh s p).1 was (event_same d b c (suc (pred n)) sh s p other) (event_drained d b c (suc (pred n)) sh s p other (was.drained f)) f;
+          answered = kept state x y s (event d b c (suc (pred n)) sh s p).1 was (event_same d b c (suc (pred n)) sh s p other) (event_drained d b c (suc (pred n)) sh s p other (was.drained f)) f;
         }
 
-    replied : (r : Reply) (t : Bool) → Puts (IsPut held faults) (IsMissed held faults) rose a a2 n (Replying r) t
+    replied : (r : Reply) (t : Bool) → Puts (IsPut state) (IsMissed state) rose a a2 n (Replying r) t
         → Evented x a a2 (pred n) (record s { replies = r ∷ s.replies; phase = cond t Ended Ready })
     replied r true w = go (slice_get a.list.items (pred n)) at w.0
       where
-        go : (m : Option (ClientAnswers K)) → m ≡ Some y → AtClient (IsBroken held faults) a n r a2 m → Evented x a a2 (pred n) (record s { replies = r ∷ s.replies; phase = Ended })
+        go : (m : Option (ClientAnswers K)) → m ≡ Some y → AtClient (IsBroken state) a n r a2 m → Evented x a a2 (pred n) (record s { replies = r ∷ s.replies; phase = Ended })
         go None e w = cc
         go (Some q) e w =
             let i : q ≡ y = cc in
@@ -74,11 +75,11 @@ module _ {K : Type 0} (held : K → Option (List ℕ)) (faults : K → ℕ) (d :
               here = ap (λ l. slice_get l (pred n)) w.2 ∙ set_here a.list.items (pred n) y w.0 at;
               others = λ j m. ap (λ l. slice_get l j) w.2 ∙ set_there a.list.items (pred n) j w.0 m;
               count = ap (λ l. length l) w.2 ∙ length-set a.list.items (pred n) w.0;
-              answered = missed held faults x y w.0 s (record s { replies = r ∷ s.replies; phase = Ended }) r was f (subst (λ m. IsBroken held faults m r w.0) i w.1) refl refl;
+              answered = missed state x y w.0 s (record s { replies = r ∷ s.replies; phase = Ended }) r was f (subst (λ m. IsBroken state m r w.0) i w.1) refl refl;
             }
     replied r false w = go (slice_get a.list.items (pred n)) at w
       where
-        go : (m : Option (ClientAnswers K)) → m ≡ Some y → AtClient (IsWritten held faults) a n r a2 m → Evented x a a2 (pred n) (record s { replies = r ∷ s.replies; phase = Ready })
+        go : (m : Option (ClientAnswers K)) → m ≡ Some y → AtClient (IsWritten state) a n r a2 m → Evented x a a2 (pred n) (record s { replies = r ∷ s.replies; phase = Ready })
         go None e w = cc
         go (Some q) e w =
             let i : q ≡ y = cc in
@@ -87,11 +88,11 @@ module _ {K : Type 0} (held : K → Option (List ℕ)) (faults : K → ℕ) (d :
               here = ap (λ l. slice_get l (pred n)) w.2 ∙ set_here a.list.items (pred n) y w.0 at;
               others = λ j m. ap (λ l. slice_get l j) w.2 ∙ set_there a.list.items (pred n) j w.0 m;
               count = ap (λ l. length l) w.2 ∙ length-set a.list.items (pred n) w.0;
-              answered = put held faults x y w.0 s (record s { replies = r ∷ s.replies; phase = Ready }) r was f (subst (λ m. IsWritten held faults m r w.0) i w.1) refl refl;
+              answered = put state x y w.0 s (record s { replies = r ∷ s.replies; phase = Ready }) r was f (subst (λ m. IsWritten state m r w.0) i w.1) refl refl;
             }
 
     -- by the client's phase
-    by_phase : (p : Phase) → Puts (IsPut held faults) (IsMissed held faults) rose a a2 n p c.write_fails → Evented x a a2 (pred n) (event d b c (suc (pred n)) sh s p).1
+    by_phase : (p : Phase) → Puts (IsPut state) (IsMissed state) rose a a2 n p c.write_fails → Evented x a a2 (pred n) (event d b c (suc (pred n)) sh s p).1
     by_phase (Replying r) w = replied r c.write_fails w
     by_phase Ready w = quiet Ready (λ r q. cc) w
     by_phase (Again edit) w = quiet (Again edit) (λ r q. cc) w
@@ -106,17 +107,17 @@ module _ {K : Type 0} (held : K → Option (List ℕ)) (faults : K → ℕ) (d :
     by_phase Ended w = quiet Ended (λ r q. cc) w
 
   abbrev Count : AllAnswers K → ℕ
-  Count a = fault_sum faults a.list.items
+  Count a = fault_sum state a.list.items
 
   -- what is answered of all clients, and that there are as many answers as at first
   abbrev pub Answers : AllAnswers K → State → Type 0
-  Answers a w = AllAnswered held faults old a.list.items w.clients × (length a.list.items ≡ length old)
+  Answers a w = AllAnswered state old a.list.items w.clients × (length a.list.items ≡ length old)
 
   stays : (w v : State) (a a2 : AllAnswers K) → v ≡ w → a2 ≡ a → Answers a w → Answers a2 v
   stays w v a a2 e f h = subst (Answers a2) (sym e) (subst (λ x. Answers x w) (sym f) h)
 
   turn : (n : ℕ) (w v : State) (a a2 : AllAnswers K) → Answers a w
-      → Turns Count (IsPut held faults) (IsMissed held faults) d b ticks n w a v a2 → Answers a2 v
+      → Turns Count (IsPut state) (IsMissed state) d b ticks n w a v a2 → Answers a2 v
   turn n w v a a2 h t =
       elim t.2 [
         | inl p ↦ subst (Answers a2) (sym (p.4 ∙ ap (step_client d b p.1 (pred n) w) t.1)) (stepped t.0 t.1 p.0 p.1 p.5)
@@ -124,31 +125,31 @@ module _ {K : Type 0} (held : K → Option (List ℕ)) (faults : K → ℕ) (d :
       ]
     where
       stepped : (s : ClientState) → slice_get w.clients (pred n) ≡ Some s → is_able w.shared s s.phase ≡ true → (c : Choice)
-          → Puts (IsPut held faults) (IsMissed held faults) (Rose (Count a) (Count a2)) a a2 n s.phase c.write_fails
+          → Puts (IsPut state) (IsMissed state) (Rose (Count a) (Count a2)) a a2 n s.phase c.write_fails
           → Answers a2 (step_client d b c (pred n) w (Some s))
       stepped s e able c p =
           let m = h.0 (pred n) s e in
           let one = by_phase m.0 m.1 (Rose (Count a) (Count a2)) a a2 c n w.shared s m.3 m.4 (unbroken w.shared s m.1.failed m.4.ended able) s.phase p in (
             λ j t q. elim (get_set d b w.clients (pred n) (event d b c (suc (pred n)) w.shared s s.phase).1 j t q) [
-              | inl i ↦ subst (λ k. (x : ClientAnswers K) × (y : ClientAnswers K) × (slice_get old k ≡ Some x) × (slice_get a2.list.items k ≡ Some y) × Answered held faults x y t) (sym i.0)
-                  (m.0, one.now, m.2, one.here, subst (Answered held faults m.0 one.now) (sym i.1) one.answered)
+              | inl i ↦ subst (λ k. (x : ClientAnswers K) × (y : ClientAnswers K) × (slice_get old k ≡ Some x) × (slice_get a2.list.items k ≡ Some y) × Answered state x y t) (sym i.0)
+                  (m.0, one.now, m.2, one.here, subst (Answered state m.0 one.now) (sym i.1) one.answered)
               | inr i ↦ (let o = h.0 j t i.1 in (o.0, o.1, o.2, one.others j i.0 ∙ o.3, o.4))
             ],
             one.count ∙ h.1,
           )
 
-  pub runs : (ns : List ℕ) (w v : State) (a a2 : AllAnswers K) → Answers a w → Runs Count (IsPut held faults) (IsMissed held faults) d b ticks ns w a v a2 → Answers a2 v
+  pub runs : (ns : List ℕ) (w v : State) (a a2 : AllAnswers K) → Answers a w → Runs Count (IsPut state) (IsMissed state) d b ticks ns w a v a2 → Answers a2 v
   runs [] w v a a2 h r = stays w v a a2 r.0 r.1 h
   runs (n ∷ ns) w v a a2 h r = runs ns r.0 v r.1 a2 (turn n w r.0 a r.1 h r.2) r.3
 
-  pub finishes : (ns : List ℕ) (w v : State) (a a2 : AllAnswers K) → Answers a w → Finishes Count (IsPut held faults) (IsMissed held faults) d b ticks ns w a v a2 → Answers a2 v
+  pub finishes : (ns : List ℕ) (w v : State) (a a2 : AllAnswers K) → Answers a w → Finishes Count (IsPut state) (IsMissed state) d b ticks ns w a v a2 → Answers a2 v
   finishes [] w v a a2 h r = stays w v a a2 r.0 r.1 h
   finishes (n ∷ ns) w v a a2 h r = finishes ns r.1 v r.2 a2 (turn n w r.1 a r.2 h r.3) r.4
 
-module _ {K : Type 0} (held : K → Option (List ℕ)) (faults : K → ℕ) where
+module _ {K : Type 0} (state : K → SinkState) where
   -- before the first step
-  pub started : (xs : List (ClientAnswers K)) (ls : List (List Line × Bool)) → length xs ≡ length (map new_client ls) → AllByRecursion IsFresh xs → AllAnswered held faults xs xs (map new_client ls)
+  pub started : (xs : List (ClientAnswers K)) (ls : List (List Line × Bool)) → length xs ≡ length (map new_client ls) → AllByRecursion IsFresh xs → AllAnswered state xs xs (map new_client ls)
   started xs [] e f k s q = cc
   started [] (l ∷ ls) e f k s q = absurd (omega (arith, e))
-  started (x ∷ xs) (l ∷ ls) e f zero s q = let m : new_client l ≡ s = cc in (x, x, refl, refl, fresh held faults x s f.0 (sym (ap (λ t. t.replies) m)) (sym (ap (λ t. t.phase) m)))
+  started (x ∷ xs) (l ∷ ls) e f zero s q = let m : new_client l ≡ s = cc in (x, x, refl, refl, fresh state x s f.0 (sym (ap (λ t. t.replies) m)) (sym (ap (λ t. t.phase) m)))
   started (x ∷ xs) (l ∷ ls) e f (suc k) s q = started xs ls (omega (arith, e)) f.1 k s q

@@ -1,5 +1,6 @@
 -- Plays of the core, without their outlet.
 use Rattle.std.specs.Prelude.{◌≡◌, ◌⊎◌, ℕ, pred, Bool, true, false, List, [], ◌∷◌, length, slice_get, Option, Some}
+use Rattle.pcg_base.specs.States.{SinkState}
 use Rattle.op_model.specs.declared.base.Dataset.{Dataset}
 use Rattle.op_model.specs.declared.base.Base.{Base}
 use Rattle.op_model.specs.Transcript.{Line}
@@ -42,13 +43,13 @@ module _ (d : Dataset) (b : Base) (ticks : Ticks) where
     pub ended : AllEnded v
 
 -- What a play over these sinks came to: it is that of the schedule, the log is legal and each entry is of one of the clients, each client's replies are a transcript and were written to its sink, and where none failed each line has one. No sink came or went.
-pub record IsPlayed {K : Type 0} (held : K → Option (List ℕ)) (faults : K → ℕ) (d : Dataset) (b : Base) (at : ℕ) (clients : List (List Line × Bool)) (ticks : Ticks) (schedule : List ℕ) (old new : AllAnswers K) (v : machine.State) : Type 0 where
+pub record IsPlayed {K : Type 0} (state : K → SinkState) (d : Dataset) (b : Base) (at : ℕ) (clients : List (List Line × Bool)) (ticks : Ticks) (schedule : List ℕ) (old new : AllAnswers K) (v : machine.State) : Type 0 where
   pub played : Played d b at clients v
-  pub answered : AllAnswered held faults old.list.items new.list.items v.clients
+  pub answered : AllAnswered state old.list.items new.list.items v.clients
   pub count : length new.list.items ≡ length old.list.items
   pub play : IsPlay d b ticks schedule (machine.start d b at clients) v
   pub owned : EntriesOwned (length clients) v.shared.log
   pub each : (k : ℕ) (s : machine.ClientState) (y : ClientAnswers K) (l : List Line × Bool) → slice_get v.clients k ≡ Some s → slice_get new.list.items k ≡ Some y → slice_get clients k ≡ Some l
       → y.failed ≡ false → length s.replies ≡ length l.0
-  pub runs : (mid : AllAnswers K) × (u : machine.State) × Runs (λ a. fault_sum faults a.list.items) (IsPut held faults) (IsMissed held faults) d b ticks schedule (machine.start d b at clients) old u mid
-      × ((ns : List ℕ) × Finishes (λ a. fault_sum faults a.list.items) (IsPut held faults) (IsMissed held faults) d b ticks ns u mid v new)
+  pub runs : (mid : AllAnswers K) × (u : machine.State) × Runs (λ a. fault_sum state a.list.items) (IsPut state) (IsMissed state) d b ticks schedule (machine.start d b at clients) old u mid
+      × ((ns : List ℕ) × Finishes (λ a. fault_sum state a.list.items) (IsPut state) (IsMissed state) d b ticks ns u mid v new)

@@ -47,7 +47,9 @@ fn refuses(reply: &Reply) -> bool
 fn count<K: Drop>(answers: &mut ClientAnswers<K>, reply: &Reply)
     ensures sink { answers.new.sink ≡ answers.old.sink }
     ensures lines { answers.new.lines ≡ min (answers.old.lines + 1) (2 ^ 32 - 1) }
-    ensures refused { answers.new.refused ≡ (if refuses reply.now then min (answers.old.refused + 1) (2 ^ 32 - 1) else answers.old.refused) }
+    ensures refused { answers.new.refused
+        ≡ (if refuses reply.now then min (answers.old.refused
+        + 1) (2 ^ 32 - 1) else answers.old.refused) }
     ensures failed { answers.new.failed ≡ answers.old.failed }
 {
     answers.lines = answers.lines.saturating_add(1);
@@ -58,9 +60,10 @@ fn count<K: Drop>(answers: &mut ClientAnswers<K>, reply: &Reply)
 
 /// Writes a reply to a client's sink.
 fn write<K: Sink + Drop>(answers: &mut ClientAnswers<K>, reply: &Reply) -> Result<(), Failed>
-    ensures ok { OnOk result (IsWritten K.held K.faults answers.old reply.now answers.new) }
-    ensures err { OnErr result (IsBroken K.held K.faults answers.old reply.now answers.new) }
-    ensures cause { HasCause (K.faults answers.old.sink) (K.faults answers.new.sink) result }
+    ensures ok { OnOk result (IsWritten K.state answers.old reply.now answers.new) }
+    ensures err { OnErr result (IsBroken K.state answers.old reply.now answers.new) }
+    ensures cause { HasCause (K.state answers.old.sink).faults (K.state answers.new.sink).faults
+        result }
 {
     if write_reply(reply, &mut answers.sink).is_err() {
         answers.failed = true;
@@ -71,11 +74,11 @@ fn write<K: Sink + Drop>(answers: &mut ClientAnswers<K>, reply: &Reply) -> Resul
 }
 
 impl<K: Sink + Drop> Outlet for AllAnswers<K> {
-    ghost faults = { λ a. fault_sum K.faults a.list.items };
+    ghost faults = { λ a. fault_sum K.state a.list.items };
 
-    ghost puts = { IsPut K.held K.faults };
+    ghost puts = { IsPut K.state };
 
-    ghost misses = { IsMissed K.held K.faults };
+    ghost misses = { IsMissed K.state };
 
     fn put(&mut self, client: u32, reply: &Reply) -> Result<(), Failed> {
         let place = client.saturating_sub(1) as usize;

@@ -25,14 +25,20 @@ pub fn play<R: Rows + Drop, K: Sink + Drop>(
     answers: &mut AllAnswers<K>,
 )
     requires few { length core.old.clients.items < 2 ^ 32 }
-    requires numbers { AllByRecursion (λ n. (0 < n) × (n ≤ length core.old.clients.items)) schedule.now }
-    requires sound { IsSound R.asked (R.stands core.old.rows) (R.drafts core.old.rows) core.old.table core.old.clients.items }
+    requires numbers { AllByRecursion (λ n. (0 < n)
+        × (n ≤ length core.old.clients.items)) schedule.now }
+    requires sound { IsSound R.asked (R.stands core.old.rows) (R.drafts core.old.rows)
+        core.old.table core.old.clients.items }
     requires each { length answers.old.list.items ≡ length core.old.clients.items }
     requires fresh { AllByRecursion IsFresh answers.old.list.items }
-    ensures played { (d : Dataset) (b : Base) (at : ℕ) (clients : List (List Line × Bool)) → IsGood d b (start d b at clients)
-        → CoreIs R.asked (R.stands core.old.rows) (R.drafts core.old.rows) d b core.old.table core.old.clients.items (start d b at clients)
-        → (v : State) × CoreIs R.asked (R.stands core.new.rows) (R.drafts core.new.rows) d b core.new.table core.new.clients.items v
-        × IsPlayed K.held K.faults d b at clients core.old.clock schedule.now answers.old answers.new v }
+    ensures played { (d : Dataset) (b : Base) (at : ℕ) (clients : List (List Line × Bool))
+        → IsGood d b (start d b at clients)
+        → CoreIs R.asked (R.stands core.old.rows) (R.drafts core.old.rows) d b core.old.table
+        core.old.clients.items (start d b at clients)
+        → (v : State)
+        × CoreIs R.asked (R.stands core.new.rows) (R.drafts core.new.rows) d b core.new.table
+        core.new.clients.items v
+        × IsPlayed K.state d b at clients core.old.clock schedule.now answers.old answers.new v }
 {
     core.play(alloc, schedule, answers);
 }

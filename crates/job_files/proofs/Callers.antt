@@ -4,6 +4,7 @@ use Rattle.std.specs.Prelude.{IsTrue}
 use Rattle.std.specs.List.{AllByRecursion}
 use Rattle.std.specs.Io.KnownBytes.{Consumes}
 use Rattle.std.proofs.lemmas.Option.{none-some, same_Some, slice_get-map}
+use Rattle.pcg_base.specs.States.{PlaceState, SinkState}
 use Rattle.pcg_base.specs.Told.{Files, LosesFront, TellsAt, TellsTo}
 use Rattle.pcg_words.specs.Job.{all_differ}
 use Rattle.client_answers.specs.declared.answers.ClientAnswers.{ClientAnswers}
@@ -12,7 +13,7 @@ use Rattle.stream_lines.specs.Streams.{HasLines}
 use Rattle.job_files.specs.Clients.{AreBegun, AreEmpty, AreOpened, AreRead}
 use Rattle.job_files.specs.Fronts.{IsEmptied}
 use Rattle.job_files.specs.Kept.{KeepsOther}
-use Rattle.job_files.specs.Seen.{EachStep, KeepsIn, Seen, WasBegun}
+use Rattle.job_files.specs.Places.{EachStep, KeepsIn, WasBegun}
 use Rattle.job_files.proofs.KeptIn.{are_kept_in}
 use Rattle.job_files.proofs.Openings.{opened_at}
 
@@ -24,20 +25,20 @@ opened_fresh left faults files (n ∷ ns) [] h = absurd h
 opened_fresh left faults files (n ∷ ns) (x ∷ xs) h = (h.1, opened_fresh left faults files ns xs h.2)
 
 -- there are as many answers as names
-pub empty_count : {K : Type 0} (held : K → Option (List ℕ)) (faults : K → ℕ) (files : Option Files) (names : List (List ℕ)) (xs : List (ClientAnswers K)) → AreEmpty held faults files names xs → length xs ≡ length names
-empty_count held faults files [] [] h = refl
-empty_count held faults files [] (x ∷ xs) h = absurd h
-empty_count held faults files (n ∷ ns) [] h = absurd h
-empty_count held faults files (n ∷ ns) (x ∷ xs) h = ap suc (empty_count held faults files ns xs h.3)
+pub empty_count : {K : Type 0} (state : K → SinkState) (files : Option Files) (names : List (List ℕ)) (xs : List (ClientAnswers K)) → AreEmpty state files names xs → length xs ≡ length names
+empty_count state files [] [] h = refl
+empty_count state files [] (x ∷ xs) h = absurd h
+empty_count state files (n ∷ ns) [] h = absurd h
+empty_count state files (n ∷ ns) (x ∷ xs) h = ap suc (empty_count state files ns xs h.3)
 
 -- the answers of one client
-pub empty_at : {K : Type 0} (held : K → Option (List ℕ)) (faults : K → ℕ) (files : Option Files) (names : List (List ℕ)) (xs : List (ClientAnswers K)) (k : ℕ) (x : ClientAnswers K)
-    → AreEmpty held faults files names xs → slice_get xs k ≡ Some x → IsEmptied held faults files x
-empty_at held faults files [] [] k x h g = absurd (none-some x g)
-empty_at held faults files [] (y ∷ ys) k x h g = absurd h
-empty_at held faults files (n ∷ ns) [] k x h g = absurd h
-empty_at held faults files (n ∷ ns) (y ∷ ys) zero x h g = subst (λ z. IsEmptied held faults files z) (same_Some y x g) (h.0, h.1, h.2)
-empty_at held faults files (n ∷ ns) (y ∷ ys) (suc k) x h g = empty_at held faults files ns ys k x h.3 g
+pub empty_at : {K : Type 0} (state : K → SinkState) (files : Option Files) (names : List (List ℕ)) (xs : List (ClientAnswers K)) (k : ℕ) (x : ClientAnswers K)
+    → AreEmpty state files names xs → slice_get xs k ≡ Some x → IsEmptied state files x
+empty_at state files [] [] k x h g = absurd (none-some x g)
+empty_at state files [] (y ∷ ys) k x h g = absurd h
+empty_at state files (n ∷ ns) [] k x h g = absurd h
+empty_at state files (n ∷ ns) (y ∷ ys) zero x h g = subst (λ z. IsEmptied state files z) (same_Some y x g) (h.0, h.1, h.2)
+empty_at state files (n ∷ ns) (y ∷ ys) (suc k) x h g = empty_at state files ns ys k x h.3 g
 
 -- the lines of one client
 pub read_at : (lefts : List (Option (List ℕ))) (kept : List (Option (List ℕ) × ℕ)) (rs : List StreamLines) (k : ℕ) (left : Option (List ℕ)) → AreRead lefts kept rs → slice_get lefts k ≡ Some left
@@ -77,7 +78,7 @@ was_begun (Some m) (Some m') others lefts name (Some bytes) after k told loses t
     (loses.0, told ∙ ap (λ bs. Some bs) parts)
 
 -- the same of each client, where other files were emptied between
-pub were_begun : {S : Type 0} (left : S → Option (List ℕ)) (counts : S → ℕ) (files : Option Files) (others names : List (List ℕ)) (xs : List S) (kept : List (Option (List ℕ) × ℕ)) (old new : Seen) → AreOpened left counts files names xs
+pub were_begun : {S : Type 0} (left : S → Option (List ℕ)) (counts : S → ℕ) (files : Option Files) (others names : List (List ℕ)) (xs : List S) (kept : List (Option (List ℕ) × ℕ)) (old new : PlaceState) → AreOpened left counts files names xs
     → KeepsOther files others old.files → AreBegun (map left xs) kept → IsTrue (all_differ names) → EachStep KeepsIn names kept old new → (k : ℕ) (name : List ℕ) → slice_get names k ≡ Some name → WasBegun files new.left name
 were_begun left counts files others names xs kept old new opened keeps begun differ step k name g =
     let o = opened_at left counts files names xs k name opened g in

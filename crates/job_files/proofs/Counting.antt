@@ -6,8 +6,9 @@ use Rattle.std.proofs.lemmas.Bool.{or_parts}
 use Rattle.std.proofs.lemmas.Option.{none-some, same_Some}
 use Rattle.std.proofs.lemmas.Slice.Eq.{bytes_eq-Decides}
 use Rattle.pcg_base.specs.Causes.{Rose}
+use Rattle.pcg_base.specs.States.{PlaceState}
 use Rattle.pcg_base.specs.Told.{Counts, Files, KeepsFiles}
-use Rattle.job_files.specs.Seen.{IsLater, IsLaterAt, IsSame, Seen}
+use Rattle.job_files.specs.Places.{IsLater, IsLaterAt, IsSame}
 
 pub differs : (xs ys : List ℕ) → bytes_eq xs ys ≡ false → xs ≢ ys
 differs xs ys e same = absurd (cc ((bytes_eq-Decides xs ys).1 same))
@@ -43,10 +44,10 @@ same_at old new e =
     let P : Counts → Type 0 = λ c. IsLaterAt old c in
     subst P (sym e) (record { source_openings = omega arith; sink_openings = omega arith; source_faults = omega arith; sink_faults = omega arith })
 
-pub later_still : (s : Seen) → IsLater s s
+pub later_still : (s : PlaceState) → IsLater s s
 later_still s = record { reads = omega arith; writes = omega arith; counts = λ name. same_at (s.counts name) (s.counts name) refl }
 
-pub later_then : (a b c : Seen) → IsLater a b → IsLater b c → IsLater a c
+pub later_then : (a b c : PlaceState) → IsLater a b → IsLater b c → IsLater a c
 later_then a b c h k = record {
   reads = omega (arith, h.reads, k.reads);
   writes = omega (arith, h.writes, k.writes);
@@ -68,10 +69,10 @@ pub rose_before : (a b c : ℕ) → Rose a b → b ≤ c → Rose a c
 rose_before a b c h k = omega (arith, h, k)
 
 -- nothing changed
-pub same_still : (s : Seen) → IsSame s s
+pub same_still : (s : PlaceState) → IsSame s s
 same_still s = record { files = files_keep s.files; left = λ name. refl; reads = refl; writes = refl; counts = λ name. refl }
 
-pub same_then : (a b c : Seen) → IsSame a b → IsSame b c → IsSame a c
+pub same_then : (a b c : PlaceState) → IsSame a b → IsSame b c → IsSame a c
 same_then a b c h k = record {
   files = files_then a.files b.files c.files h.files k.files;
   left = λ name. k.left name ∙ h.left name;
@@ -80,7 +81,7 @@ same_then a b c h k = record {
   counts = λ name. k.counts name ∙ h.counts name;
 }
 
-pub same_later : (a b : Seen) → IsSame a b → IsLater a b
+pub same_later : (a b : PlaceState) → IsSame a b → IsLater a b
 same_later a b h = record {
   reads = omega (arith, h.reads);
   writes = omega (arith, h.writes);

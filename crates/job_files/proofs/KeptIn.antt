@@ -5,9 +5,10 @@ use Rattle.std.specs.List.{list_any}
 use Rattle.std.proofs.lemmas.Bool.{and_parts, or_parts}
 use Rattle.std.proofs.lemmas.Option.{none-some, same_Some}
 use Rattle.pcg_base.specs.Causes.{added}
+use Rattle.pcg_base.specs.States.{PlaceState}
 use Rattle.pcg_base.specs.Told.{Counts, Files, KeepsFiles, TellsTo}
 use Rattle.pcg_words.specs.Job.{all_differ}
-use Rattle.job_files.specs.Seen.{EachStep, IsLater, KeepsIn, Seen}
+use Rattle.job_files.specs.Places.{EachStep, IsLater, KeepsIn}
 use Rattle.job_files.specs.Kept.{AreKeptIn, IsKeptIn}
 use Rattle.job_files.proofs.Counting.{at_each, differs, files_keep, files_then, later_still, later_then, none_passes}
 use Rattle.job_files.proofs.Steps.{in_later}
@@ -22,9 +23,9 @@ first_differs name names h = let p = and_parts (not (list_any (bytes_eq name) na
     go false e = refl
 
 -- what stands beside a name that none of the sources has
-elsewhere : (names : List (List ℕ)) (xs : List (Option (List ℕ) × ℕ)) (old new : Seen) (n : List ℕ) → list_any (bytes_eq n) names ≡ false → EachStep KeepsIn names xs old new
+elsewhere : (names : List (List ℕ)) (xs : List (Option (List ℕ) × ℕ)) (old new : PlaceState) (n : List ℕ) → list_any (bytes_eq n) names ≡ false → EachStep KeepsIn names xs old new
     → (new.counts n ≡ old.counts n) × (new.left n ≡ old.left n)
-elsewhere names [] old new n away e = (ap (λ (s : Seen). s.counts n) e, ap (λ (s : Seen). s.left n) e)
+elsewhere names [] old new n away e = (ap (λ (s : PlaceState). s.counts n) e, ap (λ (s : PlaceState). s.left n) e)
 elsewhere [] (x ∷ xs) old new n away e = absurd e
 elsewhere (m ∷ ms) (x ∷ xs) old new n away e =
     let p = or_parts (bytes_eq n m) (list_any (bytes_eq n) ms) away in
@@ -39,7 +40,7 @@ tells_then (Some m) g known bytes k t =
     subst P k t
 
 -- the first source
-first_kept : (name : List ℕ) (x : Option (List ℕ) × ℕ) (old mid new : Seen) → KeepsIn name x old mid → (new.counts name ≡ mid.counts name) × (new.left name ≡ mid.left name) → mid.reads ≤ new.reads
+first_kept : (name : List ℕ) (x : Option (List ℕ) × ℕ) (old mid new : PlaceState) → KeepsIn name x old mid → (new.counts name ≡ mid.counts name) × (new.left name ≡ mid.left name) → mid.reads ≤ new.reads
     → IsKeptIn name x old new
 first_kept name x old mid new k s up =
     let here = ap (λ (c : Counts). c.source_faults) k.here in
@@ -52,7 +53,7 @@ first_kept name x old mid new k s up =
     }
 
 -- one behind the first
-later_kept : (name : List ℕ) (x : Option (List ℕ) × ℕ) (old mid new : Seen) → KeepsFiles old.files mid.files → old.reads ≤ mid.reads → mid.counts name ≡ old.counts name → IsKeptIn name x mid new
+later_kept : (name : List ℕ) (x : Option (List ℕ) × ℕ) (old mid new : PlaceState) → KeepsFiles old.files mid.files → old.reads ≤ mid.reads → mid.counts name ≡ old.counts name → IsKeptIn name x mid new
     → IsKeptIn name x old new
 later_kept name x old mid new keeps up same k =
     let s = ap (λ (c : Counts). c.source_faults) same in
@@ -63,7 +64,7 @@ later_kept name x old mid new keeps up same k =
       rose = λ one. (let r = k.rose one in omega (arith, r, up));
     }
 
-pub are_kept_in : (names : List (List ℕ)) (xs : List (Option (List ℕ) × ℕ)) (old new : Seen) → IsTrue (all_differ names) → EachStep KeepsIn names xs old new → AreKeptIn names xs old new
+pub are_kept_in : (names : List (List ℕ)) (xs : List (Option (List ℕ) × ℕ)) (old new : PlaceState) → IsTrue (all_differ names) → EachStep KeepsIn names xs old new → AreKeptIn names xs old new
 are_kept_in names [] old new differ e =
     subst (λ s. AreKeptIn names [] old s) (sym e) (record {
       files = files_keep old.files;

@@ -6,9 +6,10 @@ use Rattle.std.specs.FinMap.{insert}
 use Rattle.std.proofs.lemmas.Bool.{or_parts}
 use Rattle.std.proofs.lemmas.Option.{none-some, same_Some}
 use Rattle.pcg_base.specs.Causes.{added}
+use Rattle.pcg_base.specs.States.{PlaceState}
 use Rattle.pcg_base.specs.Told.{Counts, Files, PutsHeld}
 use Rattle.pcg_words.specs.Job.{all_differ}
-use Rattle.job_files.specs.Seen.{EachStep, IsLater, KeepsOut, Seen}
+use Rattle.job_files.specs.Places.{EachStep, IsLater, KeepsOut}
 use Rattle.job_files.specs.Kept.{AreKeptOut, IsAt, IsKeptOut, KeepsOther}
 use Rattle.job_files.proofs.Counting.{at_each, differs, later_still, later_then, none_passes}
 use Rattle.job_files.proofs.Emptying.{put_elsewhere, put_here}
@@ -16,8 +17,8 @@ use Rattle.job_files.proofs.KeptIn.{first_differs}
 use Rattle.job_files.proofs.Steps.{out_later}
 
 -- what stands beside a name that none of the sinks has
-elsewhere : (names : List (List ℕ)) (xs : List (Option (List ℕ) × ℕ)) (old new : Seen) (n : List ℕ) → list_any (bytes_eq n) names ≡ false → EachStep KeepsOut names xs old new → new.counts n ≡ old.counts n
-elsewhere names [] old new n away e = ap (λ (s : Seen). s.counts n) e
+elsewhere : (names : List (List ℕ)) (xs : List (Option (List ℕ) × ℕ)) (old new : PlaceState) (n : List ℕ) → list_any (bytes_eq n) names ≡ false → EachStep KeepsOut names xs old new → new.counts n ≡ old.counts n
+elsewhere names [] old new n away e = ap (λ (s : PlaceState). s.counts n) e
 elsewhere [] (x ∷ xs) old new n away e = absurd e
 elsewhere (m ∷ ms) (x ∷ xs) old new n away e =
     let p = or_parts (bytes_eq n m) (list_any (bytes_eq n) ms) away in
@@ -58,7 +59,7 @@ later_at (Some m) g h n name (Some b) x p at =
     let P : Option Files → Type 0 = λ f. IsAt f h name x in
     subst P p at
 
-first_kept : (name : List ℕ) (x : Option (List ℕ) × ℕ) (old mid new : Seen) → KeepsOut name x old mid → new.counts name ≡ mid.counts name → IsAt old.files new.files name x.0 → mid.writes ≤ new.writes
+first_kept : (name : List ℕ) (x : Option (List ℕ) × ℕ) (old mid new : PlaceState) → KeepsOut name x old mid → new.counts name ≡ mid.counts name → IsAt old.files new.files name x.0 → mid.writes ≤ new.writes
     → IsKeptOut name x old new
 first_kept name x old mid new k s at up =
     let here = ap (λ (c : Counts). c.sink_faults) k.here in
@@ -70,7 +71,7 @@ first_kept name x old mid new k s at up =
       rose = λ one. (let t = k.writes in let l = k.later in omega (arith, one, t, l, up));
     }
 
-later_kept : (name : List ℕ) (x : Option (List ℕ) × ℕ) (old mid new : Seen) → IsAt old.files new.files name x.0 → old.writes ≤ mid.writes → mid.counts name ≡ old.counts name → IsKeptOut name x mid new
+later_kept : (name : List ℕ) (x : Option (List ℕ) × ℕ) (old mid new : PlaceState) → IsAt old.files new.files name x.0 → old.writes ≤ mid.writes → mid.counts name ≡ old.counts name → IsKeptOut name x mid new
     → IsKeptOut name x old new
 later_kept name x old mid new at up same k =
     let s = ap (λ (c : Counts). c.sink_faults) same in
@@ -81,7 +82,7 @@ later_kept name x old mid new at up same k =
       rose = λ one. (let r = k.rose one in omega (arith, r, up));
     }
 
-pub are_kept_out : (names : List (List ℕ)) (xs : List (Option (List ℕ) × ℕ)) (old new : Seen) → IsTrue (all_differ names) → EachStep KeepsOut names xs old new → AreKeptOut names xs old new
+pub are_kept_out : (names : List (List ℕ)) (xs : List (Option (List ℕ) × ℕ)) (old new : PlaceState) → IsTrue (all_differ names) → EachStep KeepsOut names xs old new → AreKeptOut names xs old new
 are_kept_out names [] old new differ e =
     subst (λ s. AreKeptOut names [] old s) (sym e) (record {
       reads = refl;

@@ -6,6 +6,7 @@ use Rattle.std.proofs.lemmas.Bool.{and_from, or_from, or_parts, not_from_false}
 use Rattle.std.proofs.lemmas.List.{take_all}
 use Rattle.std.proofs.lemmas.Option.{none-some, same_Some, slice_get_within, slice_get-map}
 use Rattle.pcg_base.specs.Causes.{Rose}
+use Rattle.pcg_base.specs.States.{PlaceState}
 use Rattle.pcg_base.specs.Told.{Counts, Files, KeepsFiles, OpensSource, TellsAt, TellsTo}
 use Rattle.pcg_base.specs.declared.place.PlaceError.{PlaceError}
 use Rattle.pcg_base.specs.declared.place.PlaceError.TheVariants as errors
@@ -13,7 +14,7 @@ use Rattle.pcg_words.specs.Job.{all_differ}
 use Rattle.job_files.specs.Clients.{AreOpened, FrontWhole, RequestsShut}
 use Rattle.job_files.specs.Fronts.{FailsIn, IsOpened, OpensFront, fault_of}
 use Rattle.job_files.specs.Kept.{AreKeptIn}
-use Rattle.job_files.specs.Seen.{EachStep, IsLater, IsLaterAt, IsSame, KeepsIn, ReadRose, Seen, WasOpened}
+use Rattle.job_files.specs.Places.{EachStep, IsLater, IsLaterAt, IsSame, KeepsIn, ReadRose, WasOpened}
 use Rattle.job_files.specs.declared.opening.OpenFault.{OpenFault}
 use Rattle.job_files.specs.declared.opening.OpenFault.TheVariants as faults
 use Rattle.job_files.proofs.Counting.{all_then, at_each, differs, files_then, later_then, rose_after, rose_before, same_at, same_later, same_still, same_then}
@@ -58,7 +59,7 @@ all_more P [] x h p = (p, tt)
 all_more P (y ∷ ys) x h p = (h.0, all_more P ys x h.1 p)
 
 -- ---- one opening
-pub opening_same : {A E : Type 0} (r : Result A E) (here : List ℕ) (old new : Seen) → KeepsFiles old.files new.files → ((n : List ℕ) → new.left n ≡ old.left n) → OnOk r (new.reads ≡ old.reads) → new.writes ≡ old.writes
+pub opening_same : {A E : Type 0} (r : Result A E) (here : List ℕ) (old new : PlaceState) → KeepsFiles old.files new.files → ((n : List ℕ) → new.left n ≡ old.left n) → OnOk r (new.reads ≡ old.reads) → new.writes ≡ old.writes
     → OnOk r (new.counts here ≡ old.counts here) → ((n : List ℕ) → n ≢ here → new.counts n ≡ old.counts n) → OnOk r (IsSame old new)
 opening_same (Ok x) here old new f l reads w c others = record {
   files = f;
@@ -77,7 +78,7 @@ source_at old new h = record {
   sink_faults = omega (arith, h.sink_faults);
 }
 
-pub source_later : (here : List ℕ) (old new : Seen) → old.reads ≤ new.reads → new.writes ≡ old.writes → OpensSource (old.counts here) (new.counts here) → ((n : List ℕ) → n ≢ here → new.counts n ≡ old.counts n) → IsLater old new
+pub source_later : (here : List ℕ) (old new : PlaceState) → old.reads ≤ new.reads → new.writes ≡ old.writes → OpensSource (old.counts here) (new.counts here) → ((n : List ℕ) → n ≢ here → new.counts n ≡ old.counts n) → IsLater old new
 source_later here old new r w h others = record {
   reads = r;
   writes = omega (arith, w);
@@ -105,17 +106,17 @@ opened_more left faults files (n ∷ ns) [] name x h o = absurd h
 opened_more left faults files (n ∷ ns) (y ∷ ys) name x h o = (h.0, h.1, opened_more left faults files ns ys name x h.2 o)
 
 -- the first requests were opened
-pub record OpenedSoFar {S : Type 0} (left : S → Option (List ℕ)) (faults : S → ℕ) (is_ready : List ℕ → Bool) (names : List (List ℕ)) (at : ℕ) (xs : List S) (first now : Seen) : Type 0 where
+pub record OpenedSoFar {S : Type 0} (left : S → Option (List ℕ)) (faults : S → ℕ) (is_ready : List ℕ → Bool) (names : List (List ℕ)) (at : ℕ) (xs : List S) (first now : PlaceState) : Type 0 where
   pub opened : AreOpened left faults first.files (take at names) xs
   pub same : IsSame first now
   pub ready : AllByRecursion (λ name. is_ready name ≡ true) (take at names)
   pub count : length xs ≡ at
 
-pub opened_none : {S : Type 0} (left : S → Option (List ℕ)) (faults : S → ℕ) (is_ready : List ℕ → Bool) (names : List (List ℕ)) (xs : List S) (first : Seen) → xs ≡ [] → OpenedSoFar left faults is_ready names 0 xs first first
+pub opened_none : {S : Type 0} (left : S → Option (List ℕ)) (faults : S → ℕ) (is_ready : List ℕ → Bool) (names : List (List ℕ)) (xs : List S) (first : PlaceState) → xs ≡ [] → OpenedSoFar left faults is_ready names 0 xs first first
 opened_none left faults is_ready names xs first e =
     subst (λ ys. OpenedSoFar left faults is_ready names 0 ys first first) (sym e) (record { opened = tt; same = same_still first; ready = tt; count = refl })
 
-pub opened_next : {S : Type 0} (left : S → Option (List ℕ)) (faults : S → ℕ) (is_ready is_ready' : List ℕ → Bool) (names : List (List ℕ)) (at : ℕ) (xs ys : List S) (first now new : Seen) (name : List ℕ) (x : S)
+pub opened_next : {S : Type 0} (left : S → Option (List ℕ)) (faults : S → ℕ) (is_ready is_ready' : List ℕ → Bool) (names : List (List ℕ)) (at : ℕ) (xs ys : List S) (first now new : PlaceState) (name : List ℕ) (x : S)
     → OpenedSoFar left faults is_ready names at xs first now → slice_get names at ≡ Some name → ys ≡ xs ++ x ∷ [] → IsOpened left faults now.files name x → IsSame now new
     → is_ready' name ≡ true → ((n : List ℕ) → is_ready n ≡ true → is_ready' n ≡ true) → OpenedSoFar left faults is_ready' names (at + 1) ys first new
 opened_next left faults is_ready is_ready' names at xs ys first now new name x k g e o s here stays =
@@ -133,7 +134,7 @@ opened_next left faults is_ready is_ready' names at xs ys first now new name x k
     length_more [] z = refl
     length_more (w ∷ ws) z = let r = length_more ws z in omega (arith, r)
 
-pub read_after : (a b c : Seen) (name : List ℕ) → IsLater a b → ReadRose b c name → ReadRose a c name
+pub read_after : (a b c : PlaceState) (name : List ℕ) → IsLater a b → ReadRose b c name → ReadRose a c name
 read_after a b c name h k = record { place = rose_after a.reads b.reads c.reads h.reads k.place; here = go k.here }
   where
     go : Rose (b.counts name).source_openings (c.counts name).source_openings ⊎ Rose (b.counts name).source_faults (c.counts name).source_faults
@@ -141,7 +142,7 @@ read_after a b c name h k = record { place = rose_after a.reads b.reads c.reads 
     go (inl r) = inl (rose_after _ _ _ ((h.counts name).source_openings) r)
     go (inr r) = inr (rose_after _ _ _ ((h.counts name).source_faults) r)
 
-pub read_before : (a b c : Seen) (name : List ℕ) → ReadRose a b name → IsLater b c → ReadRose a c name
+pub read_before : (a b c : PlaceState) (name : List ℕ) → ReadRose a b name → IsLater b c → ReadRose a c name
 read_before a b c name k h = record { place = rose_before a.reads b.reads c.reads k.place h.reads; here = go k.here }
   where
     go : Rose (a.counts name).source_openings (b.counts name).source_openings ⊎ Rose (a.counts name).source_faults (b.counts name).source_faults
@@ -150,7 +151,7 @@ read_before a b c name k h = record { place = rose_before a.reads b.reads c.read
     go (inr r) = inr (rose_before _ _ _ r ((h.counts name).source_faults))
 
 -- the next requests weren't opened
-pub opens_front : {S : Type 0} (left : S → Option (List ℕ)) (faults : S → ℕ) (is_ready is_ready' : List ℕ → Bool) (names : List (List ℕ)) (at : ℕ) (xs : List S) (first now new : Seen) (name : List ℕ) (error : PlaceError) (client : ℕ) (fault : OpenFault)
+pub opens_front : {S : Type 0} (left : S → Option (List ℕ)) (faults : S → ℕ) (is_ready is_ready' : List ℕ → Bool) (names : List (List ℕ)) (at : ℕ) (xs : List S) (first now new : PlaceState) (name : List ℕ) (error : PlaceError) (client : ℕ) (fault : OpenFault)
     → OpenedSoFar left faults is_ready names at xs first now → slice_get names at ≡ Some name → KeepsFiles now.files new.files → new.writes ≡ now.writes → IsLater now new
     → (error ≡ errors.Failed → ReadRose now new name) → ((n : List ℕ) → is_ready n ≡ true → is_ready' n ≡ true) → client ≡ at + 1 → fault ≡ fault_of error client
     → ((n : List ℕ) → new.left n ≡ now.left n) → OpensFront left faults is_ready' names xs first new fault
@@ -174,8 +175,8 @@ opens_front left faults is_ready is_ready' names at xs first now new name error 
 
 -- ---- those before are kept back
 -- what sources of other names have left
-left_elsewhere : (names : List (List ℕ)) (xs : List (Option (List ℕ) × ℕ)) (old new : Seen) → EachStep KeepsIn names xs old new → (name : List ℕ) → list_any (bytes_eq name) names ≡ false → new.left name ≡ old.left name
-left_elsewhere names [] old new h name e = ap (λ (x : Seen). x.left name) h
+left_elsewhere : (names : List (List ℕ)) (xs : List (Option (List ℕ) × ℕ)) (old new : PlaceState) → EachStep KeepsIn names xs old new → (name : List ℕ) → list_any (bytes_eq name) names ≡ false → new.left name ≡ old.left name
+left_elsewhere names [] old new h name e = ap (λ (x : PlaceState). x.left name) h
 left_elsewhere [] (x ∷ xs) old new h name e = absurd h
 left_elsewhere (n ∷ names) (x ∷ xs) old new h name e =
     let q = or_parts (bytes_eq name n) (list_any (bytes_eq name) names) e in
@@ -196,7 +197,7 @@ was_opened (Some m) g lefts name (Some bytes) k told to =
     let same : Some bytes ≡ Some (lefts name) = subst P k to in
     told ∙ same
 
-module _ {S : Type 0} (left : S → Option (List ℕ)) (counts : S → ℕ) (is_ready : List ℕ → Bool) (names : List (List ℕ)) (xs : List S) (old mid new : Seen) (differ : IsTrue (all_differ names))
+module _ {S : Type 0} (left : S → Option (List ℕ)) (counts : S → ℕ) (is_ready : List ℕ → Bool) (names : List (List ℕ)) (xs : List S) (old mid new : PlaceState) (differ : IsTrue (all_differ names))
     (step : EachStep KeepsIn (take (length xs) names) (map (of_source left counts) xs) mid new) where
   front_whole : AreOpened left counts old.files (take (length xs) names) xs → KeepsFiles old.files mid.files → FrontWhole (length xs) names old.files new.left
   front_whole opened keeps k name l g =

@@ -5,13 +5,14 @@ use Rattle.std.specs.List.{AllByRecursion}
 use Rattle.std.proofs.KnownBytes.{Consumes-nil}
 use Rattle.std.proofs.lemmas.Bool.{and_parts, false≢true}
 use Rattle.std.proofs.lemmas.List.{length-map, map-append}
+use Rattle.pcg_base.specs.States.{PlaceState}
 use Rattle.pcg_base.specs.Told.{LosesFront}
 use Rattle.pcg_base.specs.declared.traits.NoMemory.{NoMemory}
 use Rattle.stream_lines.specs.declared.reading.StreamLines.{StreamLines}
 use Rattle.stream_lines.specs.Streams.{HasLines}
 use Rattle.job_files.specs.Clients.{AreBegun, AreRead, ReadsAll, ReadsSome}
 use Rattle.job_files.specs.Lines.{Gets, ReadsEach, ReadsNext}
-use Rattle.job_files.specs.Seen.{EachStep, KeepsIn, Seen}
+use Rattle.job_files.specs.Places.{EachStep, KeepsIn}
 use Rattle.job_files.proofs.Openings.{all_more}
 use Rattle.job_files.proofs.Steps.{of_source, step_behind}
 
@@ -57,21 +58,21 @@ none_begun : {S : Type 0} (left : S → Option (List ℕ)) (faults : S → ℕ) 
 none_begun left faults [] = tt
 none_begun left faults (x ∷ xs) = (([], Consumes-nil (left x)), none_begun left faults xs)
 
-pub some_begun : {S : Type 0} (left : S → Option (List ℕ)) (faults : S → ℕ) (names : List (List ℕ)) (xs : List S) (old new : Seen) → EachStep KeepsIn names (map (of_source left faults) xs) old new → ReadsSome left names xs old new
+pub some_begun : {S : Type 0} (left : S → Option (List ℕ)) (faults : S → ℕ) (names : List (List ℕ)) (xs : List S) (old new : PlaceState) → EachStep KeepsIn names (map (of_source left faults) xs) old new → ReadsSome left names xs old new
 some_begun left faults names xs old new e = (map (of_source left faults) xs, none_begun left faults xs, e)
 
-pub each_begun : {S : Type 0} (left : S → Option (List ℕ)) (names : List (List ℕ)) (xs : List S) (whole : Bool) (lines : List StreamLines) (old new : Seen) → ReadsEach left names xs whole lines old new → ReadsSome left names xs old new
+pub each_begun : {S : Type 0} (left : S → Option (List ℕ)) (names : List (List ℕ)) (xs : List S) (whole : Bool) (lines : List StreamLines) (old new : PlaceState) → ReadsEach left names xs whole lines old new → ReadsSome left names xs old new
 each_begun left names xs whole lines old new r = (r.0, r.1, r.2)
 
-pub each_read : {S : Type 0} (left : S → Option (List ℕ)) (names : List (List ℕ)) (xs : List S) (whole : Bool) (lines : List StreamLines) (old new : Seen) → ReadsEach left names xs whole lines old new → whole ≡ true → ReadsAll left names xs lines old new
+pub each_read : {S : Type 0} (left : S → Option (List ℕ)) (names : List (List ℕ)) (xs : List S) (whole : Bool) (lines : List StreamLines) (old new : PlaceState) → ReadsEach left names xs whole lines old new → whole ≡ true → ReadsAll left names xs lines old new
 each_read left names xs whole lines old new r e = (r.0, r.3 e, r.2)
 
-pub each_count : {S : Type 0} (left : S → Option (List ℕ)) (names : List (List ℕ)) (xs : List S) (whole : Bool) (lines : List StreamLines) (old new : Seen) → ReadsEach left names xs whole lines old new → whole ≡ true
+pub each_count : {S : Type 0} (left : S → Option (List ℕ)) (names : List (List ℕ)) (xs : List S) (whole : Bool) (lines : List StreamLines) (old new : PlaceState) → ReadsEach left names xs whole lines old new → whole ≡ true
     → length xs ≡ length names → length lines ≡ length names
 each_count left names xs whole lines old new r e enough = read_count (map left xs) r.0 lines (r.3 e) ∙ length-map xs left ∙ enough
 
 -- one stream was read
-pub reads_one : {S : Type 0} (left : S → Option (List ℕ)) (faults : S → ℕ) (name : List ℕ) (source back : S) (result : Result StreamLines NoMemory) (r : StreamLines) (lines lines' : List StreamLines) (old new : Seen)
+pub reads_one : {S : Type 0} (left : S → Option (List ℕ)) (faults : S → ℕ) (name : List ℕ) (source back : S) (result : Result StreamLines NoMemory) (r : StreamLines) (lines lines' : List StreamLines) (old new : PlaceState)
     → result ≡ Ok r → IfOk result (λ x. HasLines (left source) (left back) (faults source) (faults back) x.lines.items x.end) → IfOk result (λ x. length x.lines.items < 2 ^ 32) → LosesFront (left source) (left back)
     → faults source ≡ 0 → KeepsIn name (of_source left faults back) old new → lines' ≡ lines ++ r ∷ [] → ReadsNext left name source true lines lines' old new
 reads_one left faults name source back result r lines lines' old new is has few front fresh step put =
@@ -80,18 +81,18 @@ reads_one left faults name source back result r lines lines' old new is has few 
     (of_source left faults back, front, step, (r, put, subst (λ n. HasLines (left source) (left back) n (faults back) r.lines.items r.end) fresh (subst P is has), subst Q is few))
 
 -- the first streams were read
-pub record ReadSoFar {S : Type 0} (left : S → Option (List ℕ)) (names : List (List ℕ)) (all done rest : List S) (at : ℕ) (whole : Bool) (lines : List StreamLines) (first now : Seen) : Type 0 where
+pub record ReadSoFar {S : Type 0} (left : S → Option (List ℕ)) (names : List (List ℕ)) (all done rest : List S) (at : ℕ) (whole : Bool) (lines : List StreamLines) (first now : PlaceState) : Type 0 where
   pub reads : ReadsEach left names done whole lines first now
   pub few : AllByRecursion (λ r. length r.lines.items < 2 ^ 32) lines
   pub parts : done ++ rest ≡ all
   pub count : at ≡ length done
   pub room : length lines ≤ at
 
-pub read_none : {S : Type 0} (left : S → Option (List ℕ)) (names : List (List ℕ)) (all rest : List S) (lines : List StreamLines) (first : Seen) → rest ≡ all → lines ≡ [] → ReadSoFar left names all [] rest 0 true lines first first
+pub read_none : {S : Type 0} (left : S → Option (List ℕ)) (names : List (List ℕ)) (all rest : List S) (lines : List StreamLines) (first : PlaceState) → rest ≡ all → lines ≡ [] → ReadSoFar left names all [] rest 0 true lines first first
 read_none left names all rest lines first e none =
     subst (λ ls. ReadSoFar left names all [] rest 0 true ls first first) (sym none) (record { reads = ([], tt, refl, λ h. tt); few = tt; parts = e; count = refl; room = omega arith })
 
-pub read_within : {S : Type 0} (left : S → Option (List ℕ)) (names : List (List ℕ)) (all done rest : List S) (at : ℕ) (whole : Bool) (lines : List StreamLines) (first now : Seen) (x : S) (after : List S)
+pub read_within : {S : Type 0} (left : S → Option (List ℕ)) (names : List (List ℕ)) (all done rest : List S) (at : ℕ) (whole : Bool) (lines : List StreamLines) (first now : PlaceState) (x : S) (after : List S)
     → ReadSoFar left names all done rest at whole lines first now → rest ≡ x ∷ after → length all ≡ length names → at < length names
 read_within left names all done rest at whole lines first now x after k e enough =
     let a = ap (λ xs. length xs) k.parts in
@@ -100,7 +101,7 @@ read_within left names all done rest at whole lines first now x after k e enough
     let d = k.count in
     omega (arith, a, b, c, d, enough)
 
-pub read_next : {S : Type 0} (left : S → Option (List ℕ)) (names : List (List ℕ)) (all done rest : List S) (at : ℕ) (whole got : Bool) (lines lines' : List StreamLines) (first now new : Seen) (x : S) (after : List S) (name : List ℕ)
+pub read_next : {S : Type 0} (left : S → Option (List ℕ)) (names : List (List ℕ)) (all done rest : List S) (at : ℕ) (whole got : Bool) (lines lines' : List StreamLines) (first now new : PlaceState) (x : S) (after : List S) (name : List ℕ)
     → ReadSoFar left names all done rest at whole lines first now → rest ≡ x ∷ after → slice_get names at ≡ Some name → ReadsNext left name x got lines lines' now new
     → ReadSoFar left names all (done ++ x ∷ []) after (at + 1) (whole && got) lines' first new
 read_next {S = S} left names all done rest at whole got lines lines' first now new x after name k e g n = record {

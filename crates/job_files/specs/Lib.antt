@@ -2,4 +2,4 @@ pub mod Clients
 pub mod Fronts
 pub mod Kept
 pub mod Lines
-pub mod Seen
+pub mod Places

@@ -2,7 +2,8 @@
 
 ghost use Rattle.std.specs.Prelude.{◌≡◌, ◌≤◌, ℕ, List, length, map, true};
 ghost use Rattle.std.specs.List.{AllByRecursion};
-ghost use Rattle.job_files.specs.Seen.{EachStep, KeepsIn, KeepsOut, seen};
+ghost use Rattle.pcg_base.specs.States.{StaysIn, StaysOut};
+ghost use Rattle.job_files.specs.Places.{EachStep, KeepsIn, KeepsOut};
 ghost use Rattle.job_files.specs.Clients.{kept_of};
 
 use client_answers::ClientAnswers;
@@ -11,10 +12,11 @@ use pcg_words::Name;
 
 /// Keeps a source back at its name.
 pub(crate) fn keep_request<P: Place>(place: &mut P, name: &Name, source: P::In)
-    requires opened { P.opened_in place.old name.now ≡ true }
-    ensures step { KeepsIn name.now (P.In.left source, P.In.faults source) (seen P.files P.left_at P.read_faults P.write_faults P.counts place.old) (seen P.files P.left_at P.read_faults P.write_faults P.counts place.new) }
-    ensures stays_in { (n : List ℕ) → P.opened_in place.old n ≡ true → P.opened_in place.new n ≡ true }
-    ensures stays_out { (n : List ℕ) → P.opened_out place.old n ≡ true → P.opened_out place.new n ≡ true }
+    requires opened { (P.state place.old).opened_in name.now ≡ true }
+    ensures step { KeepsIn name.now (P.In.left source, P.In.faults source) (P.state place.old)
+        (P.state place.new) }
+    ensures stays_in { StaysIn (P.state place.old) (P.state place.new) }
+    ensures stays_out { StaysOut (P.state place.old) (P.state place.new) }
 {
     place.keep_in(name.text.as_str(), source);
 }
@@ -23,10 +25,11 @@ pub(crate) fn keep_request<P: Place>(place: &mut P, name: &Name, source: P::In)
 fn keep_answer<P: Place>(place: &mut P, name: &Name, answers: ClientAnswers<P::Out>)
 where
     P::Out: Drop,
-    requires opened { P.opened_out place.old name.now ≡ true }
-    ensures step { KeepsOut name.now (kept_of P.Out.held P.Out.faults answers) (seen P.files P.left_at P.read_faults P.write_faults P.counts place.old) (seen P.files P.left_at P.read_faults P.write_faults P.counts place.new) }
-    ensures stays_in { (n : List ℕ) → P.opened_in place.old n ≡ true → P.opened_in place.new n ≡ true }
-    ensures stays_out { (n : List ℕ) → P.opened_out place.old n ≡ true → P.opened_out place.new n ≡ true }
+    requires opened { (P.state place.old).opened_out name.now ≡ true }
+    ensures step { KeepsOut name.now (kept_of P.Out.state answers) (P.state place.old)
+        (P.state place.new) }
+    ensures stays_in { StaysIn (P.state place.old) (P.state place.new) }
+    ensures stays_out { StaysOut (P.state place.old) (P.state place.new) }
 {
     let ClientAnswers { sink, .. } = answers;
     place.keep_out(name.text.as_str(), sink);
@@ -37,9 +40,11 @@ pub fn keep_requests<P: Place>(place: &mut P, names: &[Name], sources: Vec<P::In
 where
     P::In: Drop,
     requires enough { length sources.items ≤ length names.now }
-    requires opened { AllByRecursion (λ n. P.opened_in place.old n ≡ true) names.now }
-    ensures each { EachStep KeepsIn names.now (map (λ x. (P.In.left x, P.In.faults x)) sources.items) (seen P.files P.left_at P.read_faults P.write_faults P.counts place.old) (seen P.files P.left_at P.read_faults P.write_faults P.counts place.new) }
-    ensures stays { (n : List ℕ) → P.opened_out place.old n ≡ true → P.opened_out place.new n ≡ true }
+    requires opened { AllByRecursion (λ n. (P.state place.old).opened_in n ≡ true) names.now }
+    ensures each { EachStep KeepsIn names.now
+        (map (λ x. (P.In.left x, P.In.faults x)) sources.items) (P.state place.old)
+        (P.state place.new) }
+    ensures stays { StaysOut (P.state place.old) (P.state place.new) }
 {
     let mut at = 0;
     for source in sources {
@@ -53,9 +58,10 @@ pub fn keep_answers<P: Place>(place: &mut P, names: &[Name], answers: Vec<Client
 where
     P::Out: Drop,
     requires enough { length answers.items ≤ length names.now }
-    requires opened { AllByRecursion (λ n. P.opened_out place.old n ≡ true) names.now }
-    ensures each { EachStep KeepsOut names.now (map (kept_of P.Out.held P.Out.faults) answers.items) (seen P.files P.left_at P.read_faults P.write_faults P.counts place.old) (seen P.files P.left_at P.read_faults P.write_faults P.counts place.new) }
-    ensures stays { (n : List ℕ) → P.opened_in place.old n ≡ true → P.opened_in place.new n ≡ true }
+    requires opened { AllByRecursion (λ n. (P.state place.old).opened_out n ≡ true) names.now }
+    ensures each { EachStep KeepsOut names.now (map (kept_of P.Out.state) answers.items)
+        (P.state place.old) (P.state place.new) }
+    ensures stays { StaysIn (P.state place.old) (P.state place.new) }
 {
     let mut at = 0;
     for client in answers {

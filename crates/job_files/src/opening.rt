@@ -2,11 +2,12 @@
 
 ghost use Rattle.std.specs.Prelude.{◌≡◌, ◌≤◌, ◌<◌, ◌+◌, ◌-◌, ◌^◌, ◌++◌, ◌∷◌, ℕ, List, [], bytes_eq, false, length, true, vec_capacity, vec_len, IfErr, IfOk, IsErrOf, IsTrue, OnErr, OnOk};
 ghost use Rattle.std.specs.List.{AllByRecursion, list_any};
+ghost use Rattle.pcg_base.specs.States.{KeepsLeft, StaysIn, StaysOut};
 ghost use Rattle.pcg_base.specs.Told.{KeepsFiles};
 ghost use Rattle.pcg_words.specs.Job.{all_differ};
 ghost use Rattle.job_files.specs.Clients.{AnswersOpen, AnswersShut, AreEmpty, AreOpened, RequestsShut};
 ghost use Rattle.job_files.specs.Fronts.{EmptiesFront, IsEmptied, IsOpened, OpensFront, fault_of};
-ghost use Rattle.job_files.specs.Seen.{IsLater, IsSame, ReadRose, WriteRose, seen};
+ghost use Rattle.job_files.specs.Places.{IsLater, IsSame, ReadRose, WriteRose};
 
 use crate::keeping::{keep_answers, keep_requests};
 use client_answers::ClientAnswers;
@@ -48,15 +49,17 @@ pub(crate) fn put<T: Drop>(list: &mut Vec<T>, item: T)
 
 /// Opens the requests at a name.
 fn open_request<P: Place>(place: &mut P, name: &Name) -> Result<P::In, PlaceError>
-    ensures ok { IfOk result (λ source. IsOpened P.In.left P.In.faults (P.files place.old) name.now source) }
-    ensures same { OnOk result (IsSame (seen P.files P.left_at P.read_faults P.write_faults P.counts place.old) (seen P.files P.left_at P.read_faults P.write_faults P.counts place.new)) }
-    ensures ready { OnOk result (P.opened_in place.new name.now ≡ true) }
-    ensures failed { IsErrOf result PlaceError.Failed → ReadRose (seen P.files P.left_at P.read_faults P.write_faults P.counts place.old) (seen P.files P.left_at P.read_faults P.write_faults P.counts place.new) name.now }
-    ensures files { KeepsFiles (P.files place.old) (P.files place.new) }
-    ensures writes { P.write_faults place.new ≡ P.write_faults place.old }
-    ensures later { IsLater (seen P.files P.left_at P.read_faults P.write_faults P.counts place.old) (seen P.files P.left_at P.read_faults P.write_faults P.counts place.new) }
-    ensures stays { (n : List ℕ) → P.opened_in place.old n ≡ true → P.opened_in place.new n ≡ true }
-    ensures left { (n : List ℕ) → P.left_at place.new n ≡ P.left_at place.old n }
+    ensures ok { IfOk result
+        (λ source. IsOpened P.In.left P.In.faults (P.state place.old).files name.now source) }
+    ensures same { OnOk result (IsSame (P.state place.old) (P.state place.new)) }
+    ensures ready { OnOk result ((P.state place.new).opened_in name.now ≡ true) }
+    ensures failed { IsErrOf result PlaceError.Failed
+        → ReadRose (P.state place.old) (P.state place.new) name.now }
+    ensures files { KeepsFiles (P.state place.old).files (P.state place.new).files }
+    ensures writes { (P.state place.new).writes ≡ (P.state place.old).writes }
+    ensures later { IsLater (P.state place.old) (P.state place.new) }
+    ensures stays { StaysIn (P.state place.old) (P.state place.new) }
+    ensures left { KeepsLeft (P.state place.old) (P.state place.new) }
 {
     place.source_of(name.text.as_str())
 }
@@ -72,10 +75,14 @@ where
     requires room { length names.now ≤ vec_capacity sources.old }
     requires none { sources.old.items ≡ [] }
     requires few { length names.now < 2 ^ 32 - 1 }
-    ensures ok { OnOk result (AreOpened P.In.left P.In.faults (P.files place.old) names.now sources.new.items) }
-    ensures same { OnOk result (IsSame (seen P.files P.left_at P.read_faults P.write_faults P.counts place.old) (seen P.files P.left_at P.read_faults P.write_faults P.counts place.new)) }
-    ensures ready { OnOk result (AllByRecursion (λ n. P.opened_in place.new n ≡ true) names.now) }
-    ensures front { IfErr result (OpensFront P.In.left P.In.faults (P.opened_in place.new) names.now sources.new.items (seen P.files P.left_at P.read_faults P.write_faults P.counts place.old) (seen P.files P.left_at P.read_faults P.write_faults P.counts place.new)) }
+    ensures ok { OnOk result
+        (AreOpened P.In.left P.In.faults (P.state place.old).files names.now sources.new.items) }
+    ensures same { OnOk result (IsSame (P.state place.old) (P.state place.new)) }
+    ensures ready { OnOk result
+        (AllByRecursion (λ n. (P.state place.new).opened_in n ≡ true) names.now) }
+    ensures front { IfErr result
+        (OpensFront P.In.left P.In.faults (P.state place.new).opened_in names.now sources.new.items
+        (P.state place.old) (P.state place.new)) }
 {
     for at in 0..names.len() {
         let source = match open_request(place, &names[at]) {
@@ -101,12 +108,16 @@ where
     P::In: Drop,
     requires differ { IsTrue (all_differ names.now) }
     requires few { length names.now < 2 ^ 32 - 1 }
-    ensures ok { IfOk result (λ sources. AreOpened P.In.left P.In.faults (P.files place.old) names.now sources.items) }
-    ensures same { OnOk result (IsSame (seen P.files P.left_at P.read_faults P.write_faults P.counts place.old) (seen P.files P.left_at P.read_faults P.write_faults P.counts place.new)) }
-    ensures opened { OnOk result (AllByRecursion (λ n. P.opened_in place.new n ≡ true) names.now) }
-    ensures shut { IfErr result (RequestsShut names.now (seen P.files P.left_at P.read_faults P.write_faults P.counts place.old) (seen P.files P.left_at P.read_faults P.write_faults P.counts place.new)) }
-    ensures elsewhere { (n : List ℕ) → list_any (bytes_eq n) names.now ≡ false → P.left_at place.new n ≡ P.left_at place.old n }
-    ensures later { IsLater (seen P.files P.left_at P.read_faults P.write_faults P.counts place.old) (seen P.files P.left_at P.read_faults P.write_faults P.counts place.new) }
+    ensures ok { IfOk result
+        (λ sources. AreOpened P.In.left P.In.faults (P.state place.old).files names.now
+        sources.items) }
+    ensures same { OnOk result (IsSame (P.state place.old) (P.state place.new)) }
+    ensures opened { OnOk result
+        (AllByRecursion (λ n. (P.state place.new).opened_in n ≡ true) names.now) }
+    ensures shut { IfErr result (RequestsShut names.now (P.state place.old) (P.state place.new)) }
+    ensures elsewhere { (n : List ℕ) → list_any (bytes_eq n) names.now ≡ false
+        → (P.state place.new).left n ≡ (P.state place.old).left n }
+    ensures later { IsLater (P.state place.old) (P.state place.new) }
 {
     let Ok(mut sources) = Vec::with_capacity(alloc, names.len()) else {
         return Err(OpenFault::NoMemory);
@@ -125,16 +136,18 @@ where
 fn open_answer<P: Place>(place: &mut P, name: &Name) -> Result<ClientAnswers<P::Out>, PlaceError>
 where
     P::Out: Drop,
-    ensures ok { IfOk result (λ answers. IsEmptied P.Out.held P.Out.faults (P.files place.old) answers) }
-    ensures empties { OnOk result (AnswersOpen (name.now ∷ []) (seen P.files P.left_at P.read_faults P.write_faults P.counts place.old) (seen P.files P.left_at P.read_faults P.write_faults P.counts place.new)) }
-    ensures ready { OnOk result (P.opened_out place.new name.now ≡ true) }
-    ensures failed { IsErrOf result PlaceError.Failed → WriteRose (seen P.files P.left_at P.read_faults P.write_faults P.counts place.old) (seen P.files P.left_at P.read_faults P.write_faults P.counts place.new) name.now }
-    ensures unmade { OnErr result (KeepsFiles (P.files place.old) (P.files place.new)) }
-    ensures reads { P.read_faults place.new ≡ P.read_faults place.old }
-    ensures left { (n : List ℕ) → P.left_at place.new n ≡ P.left_at place.old n }
-    ensures later { IsLater (seen P.files P.left_at P.read_faults P.write_faults P.counts place.old) (seen P.files P.left_at P.read_faults P.write_faults P.counts place.new) }
-    ensures stays_in { (n : List ℕ) → P.opened_in place.old n ≡ true → P.opened_in place.new n ≡ true }
-    ensures stays_out { (n : List ℕ) → P.opened_out place.old n ≡ true → P.opened_out place.new n ≡ true }
+    ensures ok { IfOk result (λ answers. IsEmptied P.Out.state (P.state place.old).files answers) }
+    ensures empties { OnOk result
+        (AnswersOpen (name.now ∷ []) (P.state place.old) (P.state place.new)) }
+    ensures ready { OnOk result ((P.state place.new).opened_out name.now ≡ true) }
+    ensures failed { IsErrOf result PlaceError.Failed
+        → WriteRose (P.state place.old) (P.state place.new) name.now }
+    ensures unmade { OnErr result (KeepsFiles (P.state place.old).files (P.state place.new).files) }
+    ensures reads { (P.state place.new).reads ≡ (P.state place.old).reads }
+    ensures left { KeepsLeft (P.state place.old) (P.state place.new) }
+    ensures later { IsLater (P.state place.old) (P.state place.new) }
+    ensures stays_in { StaysIn (P.state place.old) (P.state place.new) }
+    ensures stays_out { StaysOut (P.state place.old) (P.state place.new) }
 {
     let sink = match place.sink_of(name.text.as_str()) {
         Ok(sink) => sink,
@@ -159,11 +172,15 @@ where
     requires room { length names.now ≤ vec_capacity answers.old }
     requires none { answers.old.items ≡ [] }
     requires few { length names.now < 2 ^ 32 - 1 }
-    ensures ok { OnOk result (AreEmpty P.Out.held P.Out.faults (P.files place.old) names.now answers.new.items) }
-    ensures empties { OnOk result (AnswersOpen names.now (seen P.files P.left_at P.read_faults P.write_faults P.counts place.old) (seen P.files P.left_at P.read_faults P.write_faults P.counts place.new)) }
-    ensures ready { OnOk result (AllByRecursion (λ n. P.opened_out place.new n ≡ true) names.now) }
-    ensures front { IfErr result (EmptiesFront P.Out.held P.Out.faults (P.opened_out place.new) names.now answers.new.items (seen P.files P.left_at P.read_faults P.write_faults P.counts place.old) (seen P.files P.left_at P.read_faults P.write_faults P.counts place.new)) }
-    ensures stays { (n : List ℕ) → P.opened_in place.old n ≡ true → P.opened_in place.new n ≡ true }
+    ensures ok { OnOk result
+        (AreEmpty P.Out.state (P.state place.old).files names.now answers.new.items) }
+    ensures empties { OnOk result (AnswersOpen names.now (P.state place.old) (P.state place.new)) }
+    ensures ready { OnOk result
+        (AllByRecursion (λ n. (P.state place.new).opened_out n ≡ true) names.now) }
+    ensures front { IfErr result
+        (EmptiesFront P.Out.state (P.state place.new).opened_out names.now answers.new.items
+        (P.state place.old) (P.state place.new)) }
+    ensures stays { StaysIn (P.state place.old) (P.state place.new) }
 {
     for at in 0..names.len() {
         let client = match open_answer(place, &names[at]) {
@@ -189,12 +206,14 @@ pub fn open_answers<P: Place>(
 where
     P::Out: Drop,
     requires few { length names.now < 2 ^ 32 - 1 }
-    ensures ok { IfOk result (λ answers. AreEmpty P.Out.held P.Out.faults (P.files place.old) names.now answers.items) }
-    ensures open { OnOk result (AnswersOpen names.now (seen P.files P.left_at P.read_faults P.write_faults P.counts place.old) (seen P.files P.left_at P.read_faults P.write_faults P.counts place.new)) }
-    ensures opened { OnOk result (AllByRecursion (λ n. P.opened_out place.new n ≡ true) names.now) }
-    ensures stays { (n : List ℕ) → P.opened_in place.old n ≡ true → P.opened_in place.new n ≡ true }
-    ensures shut { IfErr result (AnswersShut names.now (seen P.files P.left_at P.read_faults P.write_faults P.counts place.old) (seen P.files P.left_at P.read_faults P.write_faults P.counts place.new)) }
-    ensures later { IsLater (seen P.files P.left_at P.read_faults P.write_faults P.counts place.old) (seen P.files P.left_at P.read_faults P.write_faults P.counts place.new) }
+    ensures ok { IfOk result
+        (λ answers. AreEmpty P.Out.state (P.state place.old).files names.now answers.items) }
+    ensures open { OnOk result (AnswersOpen names.now (P.state place.old) (P.state place.new)) }
+    ensures opened { OnOk result
+        (AllByRecursion (λ n. (P.state place.new).opened_out n ≡ true) names.now) }
+    ensures stays { StaysIn (P.state place.old) (P.state place.new) }
+    ensures shut { IfErr result (AnswersShut names.now (P.state place.old) (P.state place.new)) }
+    ensures later { IsLater (P.state place.old) (P.state place.new) }
 {
     let Ok(mut answers) = Vec::with_capacity(alloc, names.len()) else {
         return Err(OpenFault::NoMemory);

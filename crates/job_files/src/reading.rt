@@ -2,9 +2,9 @@
 
 ghost use Rattle.std.specs.Prelude.{◌≡◌, ◌≤◌, ◌<◌, ◌^◌, ℕ, List, [], length, true, vec_capacity, vec_len, IfOk, OnErr};
 ghost use Rattle.std.specs.List.{AllByRecursion};
+ghost use Rattle.pcg_base.specs.States.{StaysIn, StaysOut};
 ghost use Rattle.job_files.specs.Clients.{ReadsAll, ReadsSome};
 ghost use Rattle.job_files.specs.Lines.{ReadsEach, ReadsNext};
-ghost use Rattle.job_files.specs.Seen.{seen};
 
 use crate::keeping::{keep_request, keep_requests};
 use crate::opening::put;
@@ -26,11 +26,12 @@ where
     P::In: Drop,
     requires room { vec_len read.old < vec_capacity read.old }
     requires fresh { P.In.faults source ≡ 0 }
-    requires opened { P.opened_in place.old name.now ≡ true }
-    ensures reads { ReadsNext P.In.left name.now source result read.old.items read.new.items (seen P.files P.left_at P.read_faults P.write_faults P.counts place.old) (seen P.files P.left_at P.read_faults P.write_faults P.counts place.new) }
+    requires opened { (P.state place.old).opened_in name.now ≡ true }
+    ensures reads { ReadsNext P.In.left name.now source result read.old.items read.new.items
+        (P.state place.old) (P.state place.new) }
     ensures capacity { vec_capacity read.old ≤ vec_capacity read.new }
-    ensures stays_in { (n : List ℕ) → P.opened_in place.old n ≡ true → P.opened_in place.new n ≡ true }
-    ensures stays_out { (n : List ℕ) → P.opened_out place.old n ≡ true → P.opened_out place.new n ≡ true }
+    ensures stays_in { StaysIn (P.state place.old) (P.state place.new) }
+    ensures stays_out { StaysOut (P.state place.old) (P.state place.new) }
 {
     let SourceRead { source, lines } = read_source(alloc, source);
     keep_request(place, name, source);
@@ -58,10 +59,11 @@ where
     requires room { length names.now ≤ vec_capacity read.old }
     requires none { read.old.items ≡ [] }
     requires fresh { AllByRecursion (λ s. P.In.faults s ≡ 0) sources.items }
-    requires opened { AllByRecursion (λ n. P.opened_in place.old n ≡ true) names.now }
-    ensures reads { ReadsEach P.In.left names.now sources.items result read.new.items (seen P.files P.left_at P.read_faults P.write_faults P.counts place.old) (seen P.files P.left_at P.read_faults P.write_faults P.counts place.new) }
+    requires opened { AllByRecursion (λ n. (P.state place.old).opened_in n ≡ true) names.now }
+    ensures reads { ReadsEach P.In.left names.now sources.items result read.new.items
+        (P.state place.old) (P.state place.new) }
     ensures few { AllByRecursion (λ r. length r.lines.items < 2 ^ 32) read.new.items }
-    ensures stays { (n : List ℕ) → P.opened_out place.old n ≡ true → P.opened_out place.new n ≡ true }
+    ensures stays { StaysOut (P.state place.old) (P.state place.new) }
 {
     let mut whole = true;
     let mut at = 0;
@@ -88,12 +90,16 @@ where
     P::In: Drop,
     requires each { length sources.items ≡ length names.now }
     requires fresh { AllByRecursion (λ s. P.In.faults s ≡ 0) sources.items }
-    requires opened { AllByRecursion (λ n. P.opened_in place.old n ≡ true) names.now }
-    ensures read { IfOk result (λ read. ReadsAll P.In.left names.now sources.items read.items (seen P.files P.left_at P.read_faults P.write_faults P.counts place.old) (seen P.files P.left_at P.read_faults P.write_faults P.counts place.new)) }
-    ensures few { IfOk result (λ read. AllByRecursion (λ r. length r.lines.items < 2 ^ 32) read.items) }
+    requires opened { AllByRecursion (λ n. (P.state place.old).opened_in n ≡ true) names.now }
+    ensures read { IfOk result
+        (λ read. ReadsAll P.In.left names.now sources.items read.items (P.state place.old)
+        (P.state place.new)) }
+    ensures few { IfOk result
+        (λ read. AllByRecursion (λ r. length r.lines.items < 2 ^ 32) read.items) }
     ensures count { IfOk result (λ read. length read.items ≡ length names.now) }
-    ensures begun { OnErr result (ReadsSome P.In.left names.now sources.items (seen P.files P.left_at P.read_faults P.write_faults P.counts place.old) (seen P.files P.left_at P.read_faults P.write_faults P.counts place.new)) }
-    ensures stays { (n : List ℕ) → P.opened_out place.old n ≡ true → P.opened_out place.new n ≡ true }
+    ensures begun { OnErr result
+        (ReadsSome P.In.left names.now sources.items (P.state place.old) (P.state place.new)) }
+    ensures stays { StaysOut (P.state place.old) (P.state place.new) }
 {
     let Ok(mut read) = Vec::with_capacity(alloc, names.len()) else {
         keep_requests(place, names, sources);

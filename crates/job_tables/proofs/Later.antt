@@ -3,8 +3,9 @@ use Rattle.std.proofs.Common.{◌≡◌, ◌≤◌, ℕ, Bool, true, false, List
 use Rattle.std.specs.Prelude.{Result, Ok, Err, OnOk, ◌⊎◌, ◌≢◌}
 use Rattle.std.proofs.lemmas.Slice.Eq.{bytes_eq-Decides}
 use Rattle.pcg_base.specs.Causes.{Rose}
+use Rattle.pcg_base.specs.States.{PlaceState}
 use Rattle.pcg_base.specs.Told.{Counts, ReadsSource}
-use Rattle.job_files.specs.Seen.{Seen, IsLater, IsLaterAt, ReadRose}
+use Rattle.job_files.specs.Places.{IsLater, IsLaterAt, ReadRose}
 
 same_at : (old new : Counts) → new ≡ old → IsLaterAt old new
 same_at old new e =
@@ -33,7 +34,7 @@ at_each P old new here same h others name = go (bytes_eq name here) refl
         subst Q (sym ((bytes_eq-Decides name here).0 e)) h
     go false e = same (old name) (new name) (others name (differs name here e))
 
-pub later_read : (old new : Seen) (here : List ℕ) → old.reads ≤ new.reads → new.writes ≡ old.writes → ReadsSource (old.counts here) (new.counts here)
+pub later_read : (old new : PlaceState) (here : List ℕ) → old.reads ≤ new.reads → new.writes ≡ old.writes → ReadsSource (old.counts here) (new.counts here)
     → ((n : List ℕ) → n ≢ here → new.counts n ≡ old.counts n) → IsLater old new
 later_read old new here r w h others = record {
   reads = r;
@@ -45,10 +46,10 @@ later_read old new here r w h others = record {
 pub all_still : (old new : List ℕ → Counts) (here : List ℕ) → new here ≡ old here → ((n : List ℕ) → n ≢ here → new n ≡ old n) → (name : List ℕ) → new name ≡ old name
 all_still old new here h others = at_each (λ a b. b ≡ a) old new here (λ a b e. e) h others
 
-pub later_same : (s : Seen) → IsLater s s
+pub later_same : (s : PlaceState) → IsLater s s
 later_same s = record { reads = omega arith; writes = omega arith; counts = λ name. same_at (s.counts name) (s.counts name) refl }
 
-pub later_then : (a b c : Seen) → IsLater a b → IsLater b c → IsLater a c
+pub later_then : (a b c : PlaceState) → IsLater a b → IsLater b c → IsLater a c
 later_then a b c h k = record {
   reads = omega (arith, h.reads, k.reads);
   writes = omega (arith, h.writes, k.writes);
@@ -67,7 +68,7 @@ rose_after : (a b c : ℕ) → a ≤ b → Rose b c → Rose a c
 rose_after a b c h k = omega (arith, h, k)
 
 -- what rose behind rose from before
-pub read_after : (a b c : Seen) (name : List ℕ) → IsLater a b → ReadRose b c name → ReadRose a c name
+pub read_after : (a b c : PlaceState) (name : List ℕ) → IsLater a b → ReadRose b c name → ReadRose a c name
 read_after a b c name h k = record {
   place = rose_after a.reads b.reads c.reads h.reads k.place;
   here = go k.here;

@@ -8,6 +8,7 @@ use Rattle.record_rows.specs.Readings.{Image}
 use Rattle.hierarchy_build.specs.declared.errors.BuildError.{BuildError}
 use Rattle.hierarchy_build.specs.declared.errors.BuildError.TheVariants as builds
 use Rattle.hierarchy_build.specs.Built.{IsFull}
+use Rattle.pcg_base.specs.States.{PlaceState}
 use Rattle.pcg_base.specs.Told.{Files}
 use Rattle.pcg_words.specs.declared.job.RehearseJob.{RehearseJob}
 use Rattle.table_ingest.specs.Bases.{Faulty, Spells}
@@ -15,7 +16,6 @@ use Rattle.table_ingest.specs.declared.errors.Table.{Table}
 use Rattle.table_ingest.specs.declared.errors.Cause.{Cause}
 use Rattle.call_lines.specs.declared.stops.Stop.{Stop}
 use Rattle.call_lines.specs.declared.stops.Stop.TheVariants as stops
-use Rattle.job_files.specs.Seen.{Seen}
 use Rattle.job_tables.specs.declared.tables.JobBase.{JobBase}
 use Rattle.job_tables.specs.declared.texts.Texts.{Texts}
 use Rattle.job_tables.specs.Inputs.{HasBase, HasFault, HasSchedule, IsFullSo, IsRead, NamesClients, NamesNone, clock_time, dataset_of}
@@ -85,7 +85,7 @@ full_so : (m : Option Files) (job : RehearseJob) (t : Texts) (e : BuildError) �
 full_so m job t e are h =
     ((h.0.0, has_base m job t h.0.0 are.both h.0.1, h.0.2), (h.1.0, names_clients m job job.schedule (schedule_text t) h.1.0 are.third h.1.1))
 
-input_stop : (job : RehearseJob) (a c : Seen) (t : Texts) (stop : Stop) → AreTexts a.files job t → AllRead a.files c.left job → MakesStop job t stop → InputStop job a c stop
+input_stop : (job : RehearseJob) (a c : PlaceState) (t : Texts) (stop : Stop) → AreTexts a.files job t → AllRead a.files c.left job → MakesStop job t stop → InputStop job a c stop
 input_stop job a c t (stops.BadTable table row cause) are r h = (has_fault a.files job t table row cause are.both h, r)
 input_stop job a c t (stops.BadSchedule word) are r h =
     (names_none a.files job job.schedule (schedule_text t) word are.third h.0, (h.1.0, has_base a.files job t h.1.0 are.both h.1.1), r)
@@ -101,7 +101,7 @@ input_stop job a c t (stops.ReadFault client file) are r h = absurd h
 input_stop job a c t (stops.WriteFault client file) are r h = absurd h
 input_stop job a c t (stops.TooLong client file) are r h = absurd h
 
-pub stop_so : (job : RehearseJob) (a c : Seen) (t : Texts) (r : Result JobBase Stop) → AreTexts a.files job t → AllRead a.files c.left job → IfErr r (λ stop. MakesStop job t stop)
+pub stop_so : (job : RehearseJob) (a c : PlaceState) (t : Texts) (r : Result JobBase Stop) → AreTexts a.files job t → AllRead a.files c.left job → IfErr r (λ stop. MakesStop job t stop)
     → IfErr r (λ stop. InputStop job a c stop)
 stop_so job a c t (Ok x) are read h = tt
 stop_so job a c t (Err stop) are read h = input_stop job a c t stop are read h

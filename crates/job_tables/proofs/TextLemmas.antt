@@ -3,12 +3,13 @@ use Rattle.std.proofs.Common.{◌≡◌, ℕ, List, ◌∷◌, ◌++◌, Bool, t
 use Rattle.std.specs.Prelude.{option_to_list, ◌≢◌, ◌||◌, ◌&&◌, not, IsTrue}
 use Rattle.std.proofs.lemmas.Bool.{false≢true}
 use Rattle.std.proofs.lemmas.Slice.Eq.{bytes_eq-Decides}
+use Rattle.pcg_base.specs.States.{PlaceState}
 use Rattle.pcg_base.specs.Told.{Files, KeepsFiles, IsLongerAt}
 use Rattle.pcg_words.specs.declared.job.RehearseJob.{RehearseJob}
 use Rattle.pcg_words.specs.Job.{IsRehearse, all_differ, client_files, file_names}
 use Rattle.call_lines.specs.declared.stops.FileName.TheVariants as files
 use Rattle.call_lines.specs.declared.stops.Stop.{Stop}
-use Rattle.job_files.specs.Seen.{Seen, IsLater}
+use Rattle.job_files.specs.Places.{IsLater}
 use Rattle.job_tables.specs.Inputs.{HasText, limit}
 use Rattle.job_tables.specs.Stops.{AllRead, InputStop, ScheduleLong, ScheduleRead, ScheduleRose, TablesRead, TextStop, WasRead}
 use Rattle.job_tables.specs.Made.{IsOther, ScheduleStop}
@@ -72,19 +73,19 @@ unfolding file_names
 others job ok = schedule_differs job.supervoxels job.edges job.schedule job.stems ok.names
 
 -- both tables were read
-pub both_read : (job : RehearseJob) (a b c : Seen) → IsRehearse job → KeepsFiles a.files b.files → WasRead a.files b.left job.supervoxels → ((n : List ℕ) → n ≢ job.edges → c.left n ≡ b.left n)
+pub both_read : (job : RehearseJob) (a b c : PlaceState) → IsRehearse job → KeepsFiles a.files b.files → WasRead a.files b.left job.supervoxels → ((n : List ℕ) → n ≢ job.edges → c.left n ≡ b.left n)
     → WasRead b.files c.left job.edges → TablesRead a.files c.left job
 both_read job a b c ok k w same v =
     (still a.files b.left c.left job.supervoxels (same job.supervoxels (tables_differ job ok)) w, kept_read a.files b.files c.left job.edges k v)
 
 -- the supervoxels weren't read
-pub first_stop : (job : RehearseJob) (a c : Seen) (stop : Stop) → TextStop a.files job.supervoxels files.Supervoxels a c stop → InputStop job a c stop
+pub first_stop : (job : RehearseJob) (a c : PlaceState) (stop : Stop) → TextStop a.files job.supervoxels files.Supervoxels a c stop → InputStop job a c stop
 first_stop job a c stop (inl h) = subst (InputStop job a c) (sym h.0) (refl, h.1)
 first_stop job a c stop (inr (inl h)) = subst (InputStop job a c) (sym h.0) (refl, h.1)
 first_stop job a c stop (inr (inr h)) = subst (InputStop job a c) (sym h) tt
 
 -- the supervoxels were read, and the edges weren't
-pub second_stop : (job : RehearseJob) (a b c : Seen) (stop : Stop) → IsRehearse job → KeepsFiles a.files b.files → IsLater a b → WasRead a.files b.left job.supervoxels
+pub second_stop : (job : RehearseJob) (a b c : PlaceState) (stop : Stop) → IsRehearse job → KeepsFiles a.files b.files → IsLater a b → WasRead a.files b.left job.supervoxels
     → ((n : List ℕ) → n ≢ job.edges → c.left n ≡ b.left n) → TextStop b.files job.edges files.Edges b c stop → InputStop job a c stop
 second_stop job a b c stop ok k later w same (inl h) =
     subst (InputStop job a c) (sym h.0)
@@ -101,7 +102,7 @@ tables_still job m before after ok same r =
     let away = others job ok in
     (still m before after job.supervoxels (same job.supervoxels away.0) r.0, still m before after job.edges (same job.edges away.1) r.1)
 
-schedule_stop : (job : RehearseJob) (a b c : Seen) (stop : Stop) (schedule : Option (List ℕ)) → job.schedule ≡ schedule → KeepsFiles a.files b.files → IsLater a b → TablesRead a.files c.left job
+schedule_stop : (job : RehearseJob) (a b c : PlaceState) (stop : Stop) (schedule : Option (List ℕ)) → job.schedule ≡ schedule → KeepsFiles a.files b.files → IsLater a b → TablesRead a.files c.left job
     → ScheduleStop b.files schedule b c stop → InputStop job a c stop
 schedule_stop job a b c stop None is k later r h = absurd h
 schedule_stop job a b c stop (Some name) is k later r (inl h) =
@@ -111,7 +112,7 @@ schedule_stop job a b c stop (Some name) is k later r (inr (inl h)) =
 schedule_stop job a b c stop (Some name) is k later r (inr (inr h)) = subst (InputStop job a c) (sym h) tt
 
 -- the tables were read, and the schedule wasn't
-pub third_stop : (job : RehearseJob) (a b c : Seen) (stop : Stop) → IsRehearse job → KeepsFiles a.files b.files → IsLater a b → TablesRead a.files b.left job
+pub third_stop : (job : RehearseJob) (a b c : PlaceState) (stop : Stop) → IsRehearse job → KeepsFiles a.files b.files → IsLater a b → TablesRead a.files b.left job
     → ((n : List ℕ) → IsOther job.schedule n → c.left n ≡ b.left n) → ScheduleStop b.files job.schedule b c stop → InputStop job a c stop
 third_stop job a b c stop ok k later r same h = schedule_stop job a b c stop job.schedule refl k later (tables_still job a.files b.left c.left ok same r) h
 
@@ -120,6 +121,6 @@ kept_schedule old new left None k w = tt
 kept_schedule old new left (Some name) k w = kept_read old new left name k w
 
 -- all texts were read
-pub all_read : (job : RehearseJob) (a b c : Seen) → IsRehearse job → KeepsFiles a.files b.files → TablesRead a.files b.left job → ((n : List ℕ) → IsOther job.schedule n → c.left n ≡ b.left n)
+pub all_read : (job : RehearseJob) (a b c : PlaceState) → IsRehearse job → KeepsFiles a.files b.files → TablesRead a.files b.left job → ((n : List ℕ) → IsOther job.schedule n → c.left n ≡ b.left n)
     → ScheduleRead b.files c.left job.schedule → AllRead a.files c.left job
 all_read job a b c ok k r same v = (tables_still job a.files b.left c.left ok same r, kept_schedule a.files b.files c.left job.schedule k v)

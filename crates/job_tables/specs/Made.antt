@@ -6,6 +6,7 @@ use Rattle.record_rows.specs.Readings.{Image}
 use Rattle.hierarchy_build.specs.declared.errors.BuildError.{BuildError}
 use Rattle.hierarchy_build.specs.declared.errors.BuildError.TheVariants as builds
 use Rattle.hierarchy_build.specs.Built.{IsFull}
+use Rattle.pcg_base.specs.States.{PlaceState}
 use Rattle.pcg_base.specs.Told.{Files}
 use Rattle.pcg_words.specs.declared.job.RehearseJob.{RehearseJob}
 use Rattle.schedules.specs.Schedules.{schedule_of}
@@ -19,7 +20,6 @@ use Rattle.table_ingest.specs.declared.errors.TableError.TheVariants as tables
 use Rattle.call_lines.specs.declared.stops.FileName.TheVariants as files
 use Rattle.call_lines.specs.declared.stops.Stop.{Stop}
 use Rattle.call_lines.specs.declared.stops.Stop.TheVariants as stops
-use Rattle.job_files.specs.Seen.{Seen}
 use Rattle.job_tables.specs.declared.tables.JobBase.{JobBase}
 use Rattle.job_tables.specs.declared.texts.Tables.{Tables}
 use Rattle.job_tables.specs.declared.texts.Texts.{Texts}
@@ -43,7 +43,7 @@ IsShort None = ⊤
 IsShort (Some text) = length text ≤ limit
 
 -- why the schedule wasn't read, if there is one
-abbrev pub ScheduleStop : Option Files → Option (List ℕ) → Seen → Seen → Stop → Type 0
+abbrev pub ScheduleStop : Option Files → Option (List ℕ) → PlaceState → PlaceState → Stop → Type 0
 ScheduleStop m None old new stop = ⊥
 ScheduleStop m (Some name) old new stop = TextStop m name files.Schedule old new stop
 

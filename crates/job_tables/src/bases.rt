@@ -80,9 +80,11 @@ fn records_stop(error: BuildError) -> Stop
 
 /// The base that two tables spell.
 fn base_of(alloc: Global, dataset: &Dataset, tables: &Tables) -> Result<Base, Stop>
-    ensures spells { IfOk result (λ b. Spells dataset.now tables.now.supervoxels.items tables.now.edges.items b) }
+    ensures spells { IfOk result
+        (λ b. Spells dataset.now tables.now.supervoxels.items tables.now.edges.items b) }
     ensures base { IfOk result (λ b. IsBase dataset.now b) }
-    ensures stop { IfErr result (StopsForTable (Faulty dataset.now tables.now.supervoxels.items tables.now.edges.items)) }
+    ensures stop { IfErr result
+        (StopsForTable (Faulty dataset.now tables.now.supervoxels.items tables.now.edges.items)) }
 {
     match read_base(
         alloc,
@@ -98,8 +100,10 @@ fn base_of(alloc: Global, dataset: &Dataset, tables: &Tables) -> Result<Base, St
 /// The clients that a schedule names. Without one none is named.
 fn numbers_of(alloc: Global, schedule: &Option<Vec<u8>>, clients: u32) -> Result<Vec<u32>, Stop>
     requires { IsShort (option_map (λ v. v.items) schedule.now) }
-    ensures named { IfOk result (λ v. Named clients (option_map (λ v. v.items) schedule.now) v.items) }
-    ensures stop { IfErr result (StopsForWord (NotNamed clients (option_map (λ v. v.items) schedule.now))) }
+    ensures named { IfOk result
+        (λ v. Named clients (option_map (λ v. v.items) schedule.now) v.items) }
+    ensures stop { IfErr result
+        (StopsForWord (NotNamed clients (option_map (λ v. v.items) schedule.now))) }
 {
     match schedule {
         None => Ok(Vec::new(alloc)),
@@ -114,7 +118,9 @@ fn numbers_of(alloc: Global, schedule: &Option<Vec<u8>>, clients: u32) -> Result
 fn words_of(alloc: Global, dataset: &Dataset, base: &Base, clock: &Ticks) -> Result<VecWords, Stop>
     requires dataset { IsDataset dataset.now }
     requires base { IsBase dataset.now base.now }
-    ensures image { IfOk result (λ w. Image dataset.now base.now (ingested dataset.now base.now (clock_time clock.now 0)) w.words) }
+    ensures image { IfOk result
+        (λ w. Image dataset.now base.now (ingested dataset.now base.now (clock_time clock.now 0))
+        w.words) }
     ensures room { IfOk result (λ w. 8 * dataset.now.capacity ≤ length w.words + w.spare) }
     ensures fits { OnOk result ((e : TheBuildError) → IsFull dataset.now base.now e → ⊥) }
     ensures stop { IfErr result (StopsForRecords (IsFull dataset.now base.now)) }

@@ -3,7 +3,7 @@
 ghost use Rattle.std.specs.Prelude.{◌≡◌, ℕ, List, IfOk, IfErr, OnOk};
 ghost use Rattle.pcg_base.specs.Told.{KeepsFiles};
 ghost use Rattle.pcg_words.specs.Job.{IsRehearse};
-ghost use Rattle.job_files.specs.Seen.{IsLater, seen};
+ghost use Rattle.job_files.specs.Places.{IsLater};
 ghost use Rattle.job_tables.specs.Inputs.{IsRead};
 ghost use Rattle.job_tables.specs.Stops.{AllRead, InputStop};
 
@@ -42,14 +42,16 @@ pub fn read_input<P: Place>(
     place: &mut P,
 ) -> Result<JobBase, Stop>
     requires { IsRehearse job.now }
-    ensures made { IfOk result (λ r. IsRead (P.files place.old) job.now r) }
-    ensures read { OnOk result (AllRead (P.files place.old) (P.left_at place.new) job.now) }
-    ensures still { OnOk result (P.read_faults place.new ≡ P.read_faults place.old) }
-    ensures still_here { OnOk result ((n : List ℕ) → P.counts place.new n ≡ P.counts place.old n) }
-    ensures stop { IfErr result (InputStop job.now (seen P.files P.left_at P.read_faults P.write_faults P.counts place.old) (seen P.files P.left_at P.read_faults P.write_faults P.counts place.new)) }
-    ensures later { IsLater (seen P.files P.left_at P.read_faults P.write_faults P.counts place.old) (seen P.files P.left_at P.read_faults P.write_faults P.counts place.new) }
-    ensures files { KeepsFiles (P.files place.old) (P.files place.new) }
-    ensures writes { P.write_faults place.new ≡ P.write_faults place.old }
+    ensures made { IfOk result (λ r. IsRead (P.state place.old).files job.now r) }
+    ensures read { OnOk result
+        (AllRead (P.state place.old).files (P.state place.new).left job.now) }
+    ensures still { OnOk result ((P.state place.new).reads ≡ (P.state place.old).reads) }
+    ensures still_here { OnOk result ((n : List ℕ)
+        → (P.state place.new).counts n ≡ (P.state place.old).counts n) }
+    ensures stop { IfErr result (InputStop job.now (P.state place.old) (P.state place.new)) }
+    ensures later { IsLater (P.state place.old) (P.state place.new) }
+    ensures files { KeepsFiles (P.state place.old).files (P.state place.new).files }
+    ensures writes { (P.state place.new).writes ≡ (P.state place.old).writes }
 {
     let texts = match read_texts(alloc, job, place) {
         Ok(texts) => texts,

@@ -1,9 +1,10 @@
 //! The texts of a job, read from a place.
 
 ghost use Rattle.std.specs.Prelude.{◌≡◌, ◌≢◌, ◌≤◌, ℕ, List, length, IfOk, IfErr, OnOk, option_map};
+ghost use Rattle.pcg_base.specs.States.{KeepsOtherLeft};
 ghost use Rattle.pcg_base.specs.Told.{KeepsFiles};
 ghost use Rattle.pcg_words.specs.Job.{IsRehearse};
-ghost use Rattle.job_files.specs.Seen.{IsLater, seen};
+ghost use Rattle.job_files.specs.Places.{IsLater};
 ghost use Rattle.job_tables.specs.Inputs.{HasText, limit};
 ghost use Rattle.job_tables.specs.Made.{AreTables, AreTexts, IsOther, IsSchedule, IsShort, ScheduleStop};
 ghost use Rattle.job_tables.specs.Stops.{AllRead, InputStop, ScheduleRead, TablesRead, TextStop, WasRead};
@@ -41,16 +42,20 @@ fn read_text<P: Place>(
     name: &Name,
     file: FileName,
 ) -> Result<Vec<u8>, Stop>
-    ensures text { IfOk result (λ t. HasText (P.files place.old) name.now t.items) }
+    ensures text { IfOk result (λ t. HasText (P.state place.old).files name.now t.items) }
     ensures size { IfOk result (λ t. length t.items ≤ 1073741824) }
-    ensures whole { OnOk result (WasRead (P.files place.old) (P.left_at place.new) name.now) }
-    ensures still { OnOk result (P.read_faults place.new ≡ P.read_faults place.old) }
-    ensures still_here { OnOk result ((n : List ℕ) → P.counts place.new n ≡ P.counts place.old n) }
-    ensures stop { IfErr result (λ stop. TextStop (P.files place.old) name.now file (seen P.files P.left_at P.read_faults P.write_faults P.counts place.old) (seen P.files P.left_at P.read_faults P.write_faults P.counts place.new) stop) }
-    ensures later { IsLater (seen P.files P.left_at P.read_faults P.write_faults P.counts place.old) (seen P.files P.left_at P.read_faults P.write_faults P.counts place.new) }
-    ensures files { KeepsFiles (P.files place.old) (P.files place.new) }
-    ensures only_left { (n : List ℕ) → n ≢ name.now → P.left_at place.new n ≡ P.left_at place.old n }
-    ensures writes { P.write_faults place.new ≡ P.write_faults place.old }
+    ensures whole { OnOk result
+        (WasRead (P.state place.old).files (P.state place.new).left name.now) }
+    ensures still { OnOk result ((P.state place.new).reads ≡ (P.state place.old).reads) }
+    ensures still_here { OnOk result ((n : List ℕ)
+        → (P.state place.new).counts n ≡ (P.state place.old).counts n) }
+    ensures stop { IfErr result
+        (λ stop. TextStop (P.state place.old).files name.now file (P.state place.old)
+        (P.state place.new) stop) }
+    ensures later { IsLater (P.state place.old) (P.state place.new) }
+    ensures files { KeepsFiles (P.state place.old).files (P.state place.new).files }
+    ensures only_left { KeepsOtherLeft (P.state place.old) (P.state place.new) name.now }
+    ensures writes { (P.state place.new).writes ≡ (P.state place.old).writes }
 {
     match read_name(alloc, place, name.text.as_str(), LIMIT) {
         Ok(bytes) => Ok(bytes),
@@ -63,14 +68,16 @@ fn read_text<P: Place>(
 /// The texts of a job's tables.
 fn read_tables<P: Place>(alloc: Global, job: &RehearseJob, place: &mut P) -> Result<Tables, Stop>
     requires { IsRehearse job.now }
-    ensures both { IfOk result (λ t. AreTables (P.files place.old) job.now t) }
-    ensures read { OnOk result (TablesRead (P.files place.old) (P.left_at place.new) job.now) }
-    ensures still { OnOk result (P.read_faults place.new ≡ P.read_faults place.old) }
-    ensures still_here { OnOk result ((n : List ℕ) → P.counts place.new n ≡ P.counts place.old n) }
-    ensures stop { IfErr result (InputStop job.now (seen P.files P.left_at P.read_faults P.write_faults P.counts place.old) (seen P.files P.left_at P.read_faults P.write_faults P.counts place.new)) }
-    ensures later { IsLater (seen P.files P.left_at P.read_faults P.write_faults P.counts place.old) (seen P.files P.left_at P.read_faults P.write_faults P.counts place.new) }
-    ensures files { KeepsFiles (P.files place.old) (P.files place.new) }
-    ensures writes { P.write_faults place.new ≡ P.write_faults place.old }
+    ensures both { IfOk result (λ t. AreTables (P.state place.old).files job.now t) }
+    ensures read { OnOk result
+        (TablesRead (P.state place.old).files (P.state place.new).left job.now) }
+    ensures still { OnOk result ((P.state place.new).reads ≡ (P.state place.old).reads) }
+    ensures still_here { OnOk result ((n : List ℕ)
+        → (P.state place.new).counts n ≡ (P.state place.old).counts n) }
+    ensures stop { IfErr result (InputStop job.now (P.state place.old) (P.state place.new)) }
+    ensures later { IsLater (P.state place.old) (P.state place.new) }
+    ensures files { KeepsFiles (P.state place.old).files (P.state place.new).files }
+    ensures writes { (P.state place.new).writes ≡ (P.state place.old).writes }
 {
     let supervoxels = match read_text(alloc, place, &job.supervoxels, FileName::Supervoxels) {
         Ok(supervoxels) => supervoxels,
@@ -88,16 +95,24 @@ fn read_schedule_text<P: Place>(
     schedule: Option<&Name>,
     place: &mut P,
 ) -> Result<Option<Vec<u8>>, Stop>
-    ensures third { IfOk result (λ t. IsSchedule (P.files place.old) (option_map (λ n. n.now) schedule.entry) (option_map (λ v. v.items) t)) }
+    ensures third { IfOk result
+        (λ t. IsSchedule (P.state place.old).files (option_map (λ n. n.now) schedule.entry)
+        (option_map (λ v. v.items) t)) }
     ensures short { IfOk result (λ t. IsShort (option_map (λ v. v.items) t)) }
-    ensures read { OnOk result (ScheduleRead (P.files place.old) (P.left_at place.new) (option_map (λ n. n.now) schedule.entry)) }
-    ensures still { OnOk result (P.read_faults place.new ≡ P.read_faults place.old) }
-    ensures still_here { OnOk result ((n : List ℕ) → P.counts place.new n ≡ P.counts place.old n) }
-    ensures stop { IfErr result (ScheduleStop (P.files place.old) (option_map (λ n. n.now) schedule.entry) (seen P.files P.left_at P.read_faults P.write_faults P.counts place.old) (seen P.files P.left_at P.read_faults P.write_faults P.counts place.new)) }
-    ensures later { IsLater (seen P.files P.left_at P.read_faults P.write_faults P.counts place.old) (seen P.files P.left_at P.read_faults P.write_faults P.counts place.new) }
-    ensures files { KeepsFiles (P.files place.old) (P.files place.new) }
-    ensures only_left { (n : List ℕ) → IsOther (option_map (λ n. n.now) schedule.entry) n → P.left_at place.new n ≡ P.left_at place.old n }
-    ensures writes { P.write_faults place.new ≡ P.write_faults place.old }
+    ensures read { OnOk result
+        (ScheduleRead (P.state place.old).files (P.state place.new).left
+        (option_map (λ n. n.now) schedule.entry)) }
+    ensures still { OnOk result ((P.state place.new).reads ≡ (P.state place.old).reads) }
+    ensures still_here { OnOk result ((n : List ℕ)
+        → (P.state place.new).counts n ≡ (P.state place.old).counts n) }
+    ensures stop { IfErr result
+        (ScheduleStop (P.state place.old).files (option_map (λ n. n.now) schedule.entry)
+        (P.state place.old) (P.state place.new)) }
+    ensures later { IsLater (P.state place.old) (P.state place.new) }
+    ensures files { KeepsFiles (P.state place.old).files (P.state place.new).files }
+    ensures only_left { (n : List ℕ) → IsOther (option_map (λ n. n.now) schedule.entry) n
+        → (P.state place.new).left n ≡ (P.state place.old).left n }
+    ensures writes { (P.state place.new).writes ≡ (P.state place.old).writes }
 {
     let Some(name) = schedule else {
         return Ok(None);
@@ -111,14 +126,16 @@ fn read_schedule_text<P: Place>(
 /// The texts of a job: the supervoxels are read before the edges, and both before the schedule.
 pub fn read_texts<P: Place>(alloc: Global, job: &RehearseJob, place: &mut P) -> Result<Texts, Stop>
     requires { IsRehearse job.now }
-    ensures texts { IfOk result (λ t. AreTexts (P.files place.old) job.now t) }
-    ensures read { OnOk result (AllRead (P.files place.old) (P.left_at place.new) job.now) }
-    ensures still { OnOk result (P.read_faults place.new ≡ P.read_faults place.old) }
-    ensures still_here { OnOk result ((n : List ℕ) → P.counts place.new n ≡ P.counts place.old n) }
-    ensures stop { IfErr result (InputStop job.now (seen P.files P.left_at P.read_faults P.write_faults P.counts place.old) (seen P.files P.left_at P.read_faults P.write_faults P.counts place.new)) }
-    ensures later { IsLater (seen P.files P.left_at P.read_faults P.write_faults P.counts place.old) (seen P.files P.left_at P.read_faults P.write_faults P.counts place.new) }
-    ensures files { KeepsFiles (P.files place.old) (P.files place.new) }
-    ensures writes { P.write_faults place.new ≡ P.write_faults place.old }
+    ensures texts { IfOk result (λ t. AreTexts (P.state place.old).files job.now t) }
+    ensures read { OnOk result
+        (AllRead (P.state place.old).files (P.state place.new).left job.now) }
+    ensures still { OnOk result ((P.state place.new).reads ≡ (P.state place.old).reads) }
+    ensures still_here { OnOk result ((n : List ℕ)
+        → (P.state place.new).counts n ≡ (P.state place.old).counts n) }
+    ensures stop { IfErr result (InputStop job.now (P.state place.old) (P.state place.new)) }
+    ensures later { IsLater (P.state place.old) (P.state place.new) }
+    ensures files { KeepsFiles (P.state place.old).files (P.state place.new).files }
+    ensures writes { (P.state place.new).writes ≡ (P.state place.old).writes }
 {
     let tables = match read_tables(alloc, job, place) {
         Ok(tables) => tables,

@@ -60,12 +60,19 @@ pub fn write_log<W: Words, K: Sink>(
 ) -> Result<LogCounts, LogError>
     requires image { HasLog Image (W.words w.old) }
     ensures same { w.new ≡ w.old }
-    ensures ok { ForEachLog Image (W.words w.old) (λ d b log. IfOk result (λ c. Appends (K.held out.old) (K.held out.new) (log_text log) × Counts d b log c)) }
-    ensures front { ForEachLog Image (W.words w.old) (λ d b log. OnErr result (AppendsFront (K.held out.old) (K.held out.new) (log_text log))) }
-    ensures failed { IsErrOf result LogError.Failed → Rose (K.faults out.old) (K.faults out.new) }
-    ensures memory { IsErrOf result LogError.NoMemory → K.faults out.new ≡ K.faults out.old }
-    ensures still { OnOk result (K.faults out.new ≡ K.faults out.old) }
-    ensures later { K.faults out.old ≤ K.faults out.new }
+    ensures ok { ForEachLog Image (W.words w.old)
+        (λ d b log. IfOk result
+        (λ c. Appends (K.state out.old).held (K.state out.new).held (log_text log)
+        × Counts d b log c)) }
+    ensures front { ForEachLog Image (W.words w.old)
+        (λ d b log. OnErr result
+        (AppendsFront (K.state out.old).held (K.state out.new).held (log_text log))) }
+    ensures failed { IsErrOf result LogError.Failed
+        → Rose (K.state out.old).faults (K.state out.new).faults }
+    ensures memory { IsErrOf result LogError.NoMemory
+        → (K.state out.new).faults ≡ (K.state out.old).faults }
+    ensures still { OnOk result ((K.state out.new).faults ≡ (K.state out.old).faults) }
+    ensures later { (K.state out.old).faults ≤ (K.state out.new).faults }
 {
     live_roots_are_counted();
     let mut roots = 0;
@@ -95,12 +102,19 @@ fn write_at<W: Words, K: Sink>(
 ) -> Result<RootChange, LogError>
     requires entry { InEntry (W.words w.old) spot }
     ensures same { w.new ≡ w.old }
-    ensures ok { ForEntryAt Image (W.words w.old) spot (λ d b log e. IfOk result (λ x. Appends (K.held out.old) (K.held out.new) (text_of_entry e) × IsRootChange e x)) }
-    ensures front { ForEntryAt Image (W.words w.old) spot (λ d b log e. OnErr result (AppendsFront (K.held out.old) (K.held out.new) (text_of_entry e))) }
-    ensures failed { IsErrOf result LogError.Failed → Rose (K.faults out.old) (K.faults out.new) }
-    ensures memory { IsErrOf result LogError.NoMemory → K.faults out.new ≡ K.faults out.old }
-    ensures still { OnOk result (K.faults out.new ≡ K.faults out.old) }
-    ensures later { K.faults out.old ≤ K.faults out.new }
+    ensures ok { ForEntryAt Image (W.words w.old) spot
+        (λ d b log e. IfOk result
+        (λ x. Appends (K.state out.old).held (K.state out.new).held (text_of_entry e)
+        × IsRootChange e x)) }
+    ensures front { ForEntryAt Image (W.words w.old) spot
+        (λ d b log e. OnErr result
+        (AppendsFront (K.state out.old).held (K.state out.new).held (text_of_entry e))) }
+    ensures failed { IsErrOf result LogError.Failed
+        → Rose (K.state out.old).faults (K.state out.new).faults }
+    ensures memory { IsErrOf result LogError.NoMemory
+        → (K.state out.new).faults ≡ (K.state out.old).faults }
+    ensures still { OnOk result ((K.state out.new).faults ≡ (K.state out.old).faults) }
+    ensures later { (K.state out.old).faults ≤ (K.state out.new).faults }
 {
     match entry_at_spot(alloc, w, spot) {
         Ok(entry) => write_line(&entry, out),
@@ -110,12 +124,15 @@ fn write_at<W: Words, K: Sink>(
 
 /// Writes the line of an entry.
 fn write_line<K: Sink>(entry: &Entry, out: &mut K) -> Result<RootChange, LogError>
-    ensures ok { IfOk result (λ x. Appends (K.held out.old) (K.held out.new) (text_of_entry entry.now) × IsRootChange entry.now x) }
-    ensures front { OnErr result (AppendsFront (K.held out.old) (K.held out.new) (text_of_entry entry.now)) }
-    ensures failed { OnErr result (Rose (K.faults out.old) (K.faults out.new)) }
+    ensures ok { IfOk result
+        (λ x. Appends (K.state out.old).held (K.state out.new).held (text_of_entry entry.now)
+        × IsRootChange entry.now x) }
+    ensures front { OnErr result
+        (AppendsFront (K.state out.old).held (K.state out.new).held (text_of_entry entry.now)) }
+    ensures failed { OnErr result (Rose (K.state out.old).faults (K.state out.new).faults) }
     ensures cause { IfErr result (λ e. e ≡ LogError.Failed) }
-    ensures still { OnOk result (K.faults out.new ≡ K.faults out.old) }
-    ensures later { K.faults out.old ≤ K.faults out.new }
+    ensures still { OnOk result ((K.state out.new).faults ≡ (K.state out.old).faults) }
+    ensures later { (K.state out.old).faults ≤ (K.state out.new).faults }
 {
     match write_entry(entry, out) {
         Ok(()) => Ok(RootChange {

@@ -7,10 +7,11 @@ use Rattle.std.specs.Cmp.Lexicographic.{nat_list_cmp_total}
 use Rattle.std.proofs.lemmas.List.Folds.{list_any-append}
 use Rattle.std.proofs.lemmas.Map.Text.{is_eq-slice_cmp}
 use Rattle.std.proofs.lemmas.Slice.Eq.{bytes_eq-Decides}
+use Rattle.pcg_base.specs.States.{PlaceState}
 use Rattle.pcg_base.specs.Told.{Files}
 use Rattle.pcg_words.specs.declared.job.MakeJob.{MakeJob}
 use Rattle.made_files.specs.Writing.{File, KeepsBut, PutsAll, PutsNext, PutsSome, is_named, put_all}
-use Rattle.made_files.specs.Files.{Seen, StopsSo}
+use Rattle.made_files.specs.Files.{StopsSo}
 use Rattle.made_files.specs.declared.stops.MakeStop.{MakeStop}
 
 -- two names are one way round as the other
@@ -59,7 +60,7 @@ keeps_next old new fs done [] e b = absurd b
 keeps_next old new fs done (f ∷ rest) e b = keeps_all old new (done ++ (f.0, b.0) ∷ []) fs b.3 (next_among fs done rest f b.0 e)
 
 -- files that were written leave all others alone
-pub part_keeps : (job : MakeJob) (a b : Seen) (fs : List File) (stop : MakeStop) → PutsSome a.files b.files fs × StopsSo job a b stop → KeepsBut fs a.files b.files
+pub part_keeps : (job : MakeJob) (a b : PlaceState) (fs : List File) (stop : MakeStop) → PutsSome a.files b.files fs × StopsSo job a b stop → KeepsBut fs a.files b.files
 part_keeps job a b fs stop (w, s) = go w
   where
     go : PutsSome a.files b.files fs → KeepsBut fs a.files b.files

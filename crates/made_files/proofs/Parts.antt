@@ -9,18 +9,19 @@ use Rattle.made_input.specs.Rows.{Text, table_text}
 use Rattle.made_input.specs.Texts.{edge_fields, edge_header, edge_rows, input_of, stream_of, streams_of, supervoxel_rows}
 use Rattle.made_input.specs.declared.edges.MadeEdge.{MadeEdge}
 use Rattle.made_input.specs.declared.wish.Wish.{Wish}
+use Rattle.pcg_base.specs.States.{PlaceState}
 use Rattle.pcg_base.specs.Told.{Files}
 use Rattle.made_files.specs.Writing.{File, PutsAll, PutsSome}
-use Rattle.made_files.specs.Files.{IsLater, Seen, StopsSo, files_of, streams_at, tables_of, wish_of}
+use Rattle.made_files.specs.Files.{IsLater, StopsSo, files_of, streams_at, tables_of, wish_of}
 use Rattle.made_files.specs.declared.stops.MakeStop.{MakeStop}
 use Rattle.made_files.specs.declared.stops.MakeStop.TheVariants as stops
 use Rattle.made_files.proofs.Written.{all_none, all_then, file_unmade, keeps_self, some_more, some_then, stops_then}
 
 -- what is said of files that were written whole, and of those that weren't
-abbrev pub Full : Seen → Seen → List File → Type 0
+abbrev pub Full : PlaceState → PlaceState → List File → Type 0
 Full a b fs = PutsAll a.files b.files fs × (b.writes ≡ a.writes)
 
-abbrev pub Part : MakeJob → Seen → Seen → List File → MakeStop → Type 0
+abbrev pub Part : MakeJob → PlaceState → PlaceState → List File → MakeStop → Type 0
 Part job a b fs stop = PutsSome a.files b.files fs × StopsSo job a b stop
 
 pub tables_so : (job : MakeJob) (w : Wish) (edges : List MadeEdge) (s : ℕ) → w ≡ wish_of job → edges_below w w.size ≡ (edges, s)
@@ -127,7 +128,7 @@ files_so job w edges s e made =
     ∙ ap (λ n. tables_of job ++ streams_at job.stems (streams_of (wish_of job) n).0) (clients job)
 
 -- want of memory before any file was opened
-pub none_wrote : (job : MakeJob) (a : Seen) (fs : List File) → Part job a a fs stops.NoMemory
+pub none_wrote : (job : MakeJob) (a : PlaceState) (fs : List File) → Part job a a fs stops.NoMemory
 none_wrote job a fs = (file_unmade a.files a.files fs (keeps_self a.files), tt)
 
 pub none_upto : (w : Wish) (stems : List (List ℕ)) (f : Option Files) → PutsAll f f (upto w stems 0)
@@ -138,13 +139,13 @@ pub start_state : (w : Wish) (s : ℕ) → s ≡ (edges_below w w.size).1 → s 
 unfolding streams_of
 start_state w s e = e
 
-full_then : (a b c : Seen) (xs ys : List File) → Full a b xs → Full b c ys → Full a c (xs ++ ys)
+full_then : (a b c : PlaceState) (xs ys : List File) → Full a b xs → Full b c ys → Full a c (xs ++ ys)
 full_then a b c xs ys h k = (all_then a.files b.files c.files xs ys h.0 k.0, k.1 ∙ h.1)
 
-part_then : (job : MakeJob) (a b c : Seen) (xs ys : List File) (stop : MakeStop) → IsLater a b → Full a b xs → Part job b c ys stop → Part job a c (xs ++ ys) stop
+part_then : (job : MakeJob) (a b c : PlaceState) (xs ys : List File) (stop : MakeStop) → IsLater a b → Full a b xs → Part job b c ys stop → Part job a c (xs ++ ys) stop
 part_then job a b c xs ys stop later h k = (some_then a.files b.files c.files xs ys h.0 k.0, stops_then job a b c stop later k.1)
 
-part_more : (job : MakeJob) (a b : Seen) (xs ys : List File) (stop : MakeStop) → Part job a b xs stop → Part job a b (xs ++ ys) stop
+part_more : (job : MakeJob) (a b : PlaceState) (xs ys : List File) (stop : MakeStop) → Part job a b xs stop → Part job a b (xs ++ ys) stop
 part_more job a b xs ys stop h = (some_more a.files b.files xs ys h.0, h.1)
 
 module _ (job : MakeJob) (w : Wish) (edges : List MadeEdge) (s : ℕ) (same : w ≡ wish_of job) (made : edges_below w w.size ≡ (edges, s)) where
@@ -158,17 +159,17 @@ module _ (job : MakeJob) (w : Wish) (edges : List MadeEdge) (s : ℕ) (same : w 
   third = streams_at job.stems (streams_of w (length job.stems)).0
 
   -- what a job wrote, by where it ended
-  pub first_stopped : (a b : Seen) (stop : MakeStop) → Part job a b first stop → Part job a b (files_of job) stop
+  pub first_stopped : (a b : PlaceState) (stop : MakeStop) → Part job a b first stop → Part job a b (files_of job) stop
   first_stopped a b stop h = subst (λ fs. Part job a b fs stop) (files_so job w edges s same made) (part_more job a b first (second ++ third) stop h)
 
-  pub second_stopped : (a b c : Seen) (stop : MakeStop) → IsLater a b → Full a b first → Part job b c second stop → Part job a c (files_of job) stop
+  pub second_stopped : (a b c : PlaceState) (stop : MakeStop) → IsLater a b → Full a b first → Part job b c second stop → Part job a c (files_of job) stop
   second_stopped a b c stop later h k =
       subst (λ fs. Part job a c fs stop) (files_so job w edges s same made) (part_then job a b c first (second ++ third) stop later h (part_more job b c second third stop k))
 
-  pub third_stopped : (a b c d : Seen) (stop : MakeStop) → IsLater a b → IsLater b c → Full a b first → Full b c second → Part job c d third stop → Part job a d (files_of job) stop
+  pub third_stopped : (a b c d : PlaceState) (stop : MakeStop) → IsLater a b → IsLater b c → Full a b first → Full b c second → Part job c d third stop → Part job a d (files_of job) stop
   third_stopped a b c d stop early late h k l =
       subst (λ fs. Part job a d fs stop) (files_so job w edges s same made) (part_then job a b d first (second ++ third) stop early h (part_then job b c d second third stop late k l))
 
-  pub all_done : (a b c d : Seen) → Full a b first → Full b c second → Full c d third → Full a d (files_of job)
+  pub all_done : (a b c d : PlaceState) → Full a b first → Full b c second → Full c d third → Full a d (files_of job)
   all_done a b c d h k l =
       subst (λ fs. Full a d fs) (files_so job w edges s same made) (full_then a b d first (second ++ third) h (full_then b c d second third k l))

@@ -5,12 +5,13 @@ use Rattle.std.specs.FinMap.{insert}
 use Rattle.std.specs.Io.KnownBytes.{Appends}
 use Rattle.std.proofs.lemmas.Slice.Eq.{bytes_eq-Decides}
 use Rattle.pcg_base.specs.Causes.{Rose, added}
+use Rattle.pcg_base.specs.States.{PlaceState, SinkState}
 use Rattle.pcg_base.specs.Told.{AppendsFront, Counts, Files, KeepsFiles, OpensSink, PutsFile, PutsHeld, TellsTo}
 use Rattle.pcg_words.specs.declared.job.MakeJob.{MakeJob}
 use Rattle.request_lines.specs.Sent.{Puts, Sends, waiting}
 use Rattle.request_lines.specs.declared.page.Page.{Page}
 use Rattle.made_files.specs.Writing.{File, PutsAll, PutsFront, PutsNext, PutsSome, RoseAt, WritesLater, put_all}
-use Rattle.made_files.specs.Files.{IsLater, Seen, StopsSo, Wrote, name_of}
+use Rattle.made_files.specs.Files.{IsLater, StopsSo, Wrote, name_of}
 use Rattle.made_files.specs.declared.stops.MakeStop.{MakeStop}
 use Rattle.made_files.specs.declared.stops.MakeStop.TheVariants as stops
 use Rattle.made_files.proofs.Maps.{put_twice}
@@ -53,11 +54,11 @@ front_put {a = a} {b = b} {p = p} {q = q} text none fresh h = go q.failed refl
 
 -- ---- one file
 
-pub file_whole : (f0 f1 f2 : Option Files) (held held' : Option (List ℕ)) (name text : List ℕ) → PutsFile f0 f1 name [] → TellsTo f0 held [] → PutsHeld f1 f2 name held' → Appends held held' text
+pub file_whole : (f0 f1 f2 : Option Files) (out out' : SinkState) (name text : List ℕ) → PutsFile f0 f1 name [] → TellsTo f0 held [] → PutsHeld f1 f2 name held' → Appends out.held out'.held text
     → PutsAll f0 f2 ((name, text) ∷ [])
 unfolding put_all
-file_whole None f1 f2 held held' name text made told kept h = tt
-file_whole (Some m) f1 f2 held held' name text made told kept h =
+file_whole None f1 f2 out out' name text made told kept h = tt
+file_whole (Some m) f1 f2 out out' name text made told kept h =
     let H : Option (List ℕ) → Type 0 = λ x. Appends x held' text in
     go held' (subst H told h) kept
   where
@@ -67,11 +68,11 @@ file_whole (Some m) f1 f2 held held' name text made told kept h =
         let P : Option Files → Type 0 = λ f. PutsHeld f f2 name (Some ys) in
         subst P made k ∙ ap (λ z. Some z) (put_twice m name [] ys ∙ ap (insert m name) h)
 
-pub file_part : (f0 f1 f2 : Option Files) (held held' : Option (List ℕ)) (name text : List ℕ) → PutsFile f0 f1 name [] → TellsTo f0 held [] → PutsHeld f1 f2 name held' → AppendsFront held held' text
+pub file_part : (f0 f1 f2 : Option Files) (out out' : SinkState) (name text : List ℕ) → PutsFile f0 f1 name [] → TellsTo f0 held [] → PutsHeld f1 f2 name held' → AppendsFront out.held out'.held text
     → PutsSome f0 f2 ((name, text) ∷ [])
 unfolding put_all
-file_part None f1 f2 held held' name text made told kept h = ([], (name, text) ∷ [], refl, inl tt)
-file_part (Some m) f1 f2 held held' name text made told kept h =
+file_part None f1 f2 out out' name text made told kept h = ([], (name, text) ∷ [], refl, inl tt)
+file_part (Some m) f1 f2 out out' name text made told kept h =
     let H : Option (List ℕ) → Type 0 = λ x. AppendsFront x held' text in
     go held' (subst H told h) kept
   where
@@ -128,10 +129,10 @@ some_more f g xs ys (done, rest, e, inr b) = (done, rest ++ ys, ap (λ l. l ++ y
 
 -- ---- counts
 
-pub later_same : (s : Seen) → IsLater s s
+pub later_same : (s : PlaceState) → IsLater s s
 later_same s = record { writes = omega arith; counts = λ name. record { openings = omega arith; faults = omega arith } }
 
-pub later_then : (a b c : Seen) → IsLater a b → IsLater b c → IsLater a c
+pub later_then : (a b c : PlaceState) → IsLater a b → IsLater b c → IsLater a c
 later_then a b c h k = record {
   writes = omega (arith, h.writes, k.writes);
   counts = λ name.
@@ -141,7 +142,7 @@ later_then a b c h k = record {
 }
 
 -- what stopped behind others from before
-pub stops_then : (job : MakeJob) (a b c : Seen) (stop : MakeStop) → IsLater a b → StopsSo job b c stop → StopsSo job a c stop
+pub stops_then : (job : MakeJob) (a b c : PlaceState) (stop : MakeStop) → IsLater a b → StopsSo job b c stop → StopsSo job a c stop
 stops_then job a b c stops.NoMemory h k = tt
 stops_then job a b c (stops.Failed file) h k = (k.0, omega (arith, h.writes, k.1), go k.2)
   where
@@ -153,6 +154,6 @@ stops_then job a b c (stops.Failed file) h k = (k.0, omega (arith, h.writes, k.1
     go (inr r) = inr (omega (arith, p.faults, r))
 
 -- files behind others
-pub wrote_then : {A : Type 0} (job : MakeJob) (a b c : Seen) (xs ys : List File) (r : Result A MakeStop) → IsLater a b → PutsAll a.files b.files xs → b.writes ≡ a.writes → Wrote job b c ys r → Wrote job a c (xs ++ ys) r
+pub wrote_then : {A : Type 0} (job : MakeJob) (a b c : PlaceState) (xs ys : List File) (r : Result A MakeStop) → IsLater a b → PutsAll a.files b.files xs → b.writes ≡ a.writes → Wrote job b c ys r → Wrote job a c (xs ++ ys) r
 wrote_then job a b c xs ys (Ok x) h all still w = (all_then a.files b.files c.files xs ys all w.0, w.1 ∙ still)
 wrote_then job a b c xs ys (Err stop) h all still w = (some_then a.files b.files c.files xs ys all w.0, stops_then job a b c stop h w.1)

@@ -49,23 +49,17 @@ IsFile job made.Supervoxels = ⊤
 IsFile job made.Edges = ⊤
 IsFile job (made.Requests client) = (1 ≤ client) × (client ≤ length job.stems)
 
--- what a place tells: its files, and its counts of faults of writing
-pub record Seen : Type 0 where
-  pub files : Option Files
-  pub writes : ℕ
-  pub counts : List ℕ → Counts
-
 -- none of these counts fell
-pub record IsLater (old new : Seen) : Type 0 where
+pub record IsLater (old new : PlaceState) : Type 0 where
   pub writes : old.writes ≤ new.writes
   pub counts : (name : List ℕ) → WritesLater (old.counts name) (new.counts name)
 
 -- a count of faults of writing rose, and so did one beside the name of the file that failed
-abbrev pub StopsSo : MakeJob → Seen → Seen → MakeStop → Type 0
+abbrev pub StopsSo : MakeJob → PlaceState → PlaceState → MakeStop → Type 0
 StopsSo job old new (stops.Failed file) = IsFile job file × Rose old.writes new.writes × RoseAt (old.counts (name_of job file)) (new.counts (name_of job file))
 StopsSo job old new stops.NoMemory = ⊤
 
 -- All of these files were written and no count rose; or only some first ones were and at most a front of the next one, for this reason.
-abbrev pub Wrote : {A : Type 0} → MakeJob → Seen → Seen → List File → Result A MakeStop → Type 0
+abbrev pub Wrote : {A : Type 0} → MakeJob → PlaceState → PlaceState → List File → Result A MakeStop → Type 0
 Wrote job old new fs (Ok x) = PutsAll old.files new.files fs × (new.writes ≡ old.writes)
 Wrote job old new fs (Err stop) = PutsSome old.files new.files fs × StopsSo job old new stop

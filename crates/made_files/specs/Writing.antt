@@ -3,6 +3,7 @@ use Rattle.std.specs.Prelude.{◌≡◌, ◌≤◌, ◌⊎◌, ⊤, ℕ, List, [
 use Rattle.std.specs.List.{list_any}
 use Rattle.std.specs.FinMap.{get, insert}
 use Rattle.pcg_base.specs.Causes.{Rose}
+use Rattle.pcg_base.specs.States.{SinkState}
 use Rattle.pcg_base.specs.Told.{Counts, Files}
 use Rattle.request_lines.specs.Sent.{Puts}
 use Rattle.request_lines.specs.declared.page.Page.{Page}
@@ -41,8 +42,8 @@ KeepsBut fs (Some before) None = ⊥
 KeepsBut fs (Some before) (Some after) = (name : List ℕ) → is_named fs name ≡ false → get after name ≡ get before name
 
 -- a front of a text was put on a page
-abbrev pub PutsFront : Option (List ℕ) → Option (List ℕ) → ℕ → ℕ → Page → Page → List ℕ → Type 0
-PutsFront held held' count count' page page' text = (front rest : List ℕ) × (text ≡ front ++ rest) × Puts held held' count count' page page' front
+abbrev pub PutsFront : SinkState → SinkState → Page → Page → List ℕ → Type 0
+PutsFront sink sink' page page' text = (front rest : List ℕ) × (text ≡ front ++ rest) × Puts sink sink' page page' front
 
 -- a count beside a name rose: that of failed openings for writing, or that of the faults of its sinks
 abbrev pub RoseAt : Counts → Counts → Type 0

@@ -16,15 +16,22 @@ pub fn write_file<P: Place, T: Pieces>(
     piece: &mut Vec<u8>,
 ) -> Result<u64, PlaceError>
     requires { T.fits text.now }
-    ensures whole { OnOk result (PutsAll (P.files place.old) (P.files place.new) ((name.now, T.text text.now) ∷ [])) }
+    ensures whole { OnOk result
+        (PutsAll (P.state place.old).files (P.state place.new).files ((name.now, T.text text.now)
+        ∷ [])) }
     ensures state { IfOk result (λ s. s ≡ T.state text.now) }
-    ensures part { OnErr result (PutsSome (P.files place.old) (P.files place.new) ((name.now, T.text text.now) ∷ [])) }
-    ensures failed { IsErrOf result PlaceError.Failed → Rose (P.write_faults place.old) (P.write_faults place.new) }
-    ensures failed_here { IsErrOf result PlaceError.Failed → RoseAt (P.counts place.old name.now) (P.counts place.new name.now) }
-    ensures still { OnOk result (P.write_faults place.new ≡ P.write_faults place.old) }
-    ensures later { P.write_faults place.old ≤ P.write_faults place.new }
-    ensures later_here { (n : List ℕ) → WritesLater (P.counts place.old n) (P.counts place.new n) }
-    ensures reads { P.read_faults place.new ≡ P.read_faults place.old }
+    ensures part { OnErr result
+        (PutsSome (P.state place.old).files (P.state place.new).files ((name.now, T.text text.now)
+        ∷ [])) }
+    ensures failed { IsErrOf result PlaceError.Failed
+        → Rose (P.state place.old).writes (P.state place.new).writes }
+    ensures failed_here { IsErrOf result PlaceError.Failed
+        → RoseAt ((P.state place.old).counts name.now) ((P.state place.new).counts name.now) }
+    ensures still { OnOk result ((P.state place.new).writes ≡ (P.state place.old).writes) }
+    ensures later { (P.state place.old).writes ≤ (P.state place.new).writes }
+    ensures later_here { (n : List ℕ)
+        → WritesLater ((P.state place.old).counts n) ((P.state place.new).counts n) }
+    ensures reads { (P.state place.new).reads ≡ (P.state place.old).reads }
 {
     let mut sink = match place.sink_of(name) {
         Ok(sink) => sink,

@@ -48,10 +48,11 @@ fn write_one<P: Place, T: Pieces>(
 ) -> Result<u64, MakeStop>
     requires fits { T.fits text.now }
     requires named { IsFile job.now file × (name.now ≡ name_of job.now file) }
-    ensures wrote { Wrote job.now (record { files = P.files place.old; writes = P.write_faults place.old; counts = P.counts place.old }) (record { files = P.files place.new; writes = P.write_faults place.new; counts = P.counts place.new }) ((name.now, T.text text.now) ∷ []) result }
+    ensures wrote { Wrote job.now (P.state place.old) (P.state place.new)
+        ((name.now, T.text text.now) ∷ []) result }
     ensures state { IfOk result (λ s. s ≡ T.state text.now) }
-    ensures later { IsLater (record { files = P.files place.old; writes = P.write_faults place.old; counts = P.counts place.old }) (record { files = P.files place.new; writes = P.write_faults place.new; counts = P.counts place.new }) }
-    ensures reads { P.read_faults place.new ≡ P.read_faults place.old }
+    ensures later { IsLater (P.state place.old) (P.state place.new) }
+    ensures reads { (P.state place.new).reads ≡ (P.state place.old).reads }
 {
     match write_file(place, name.text.as_str(), text, piece) {
         Ok(state) => Ok(state),
@@ -68,9 +69,10 @@ fn write_supervoxels<P: Place>(
     place: &mut P,
 ) -> Result<u64, MakeStop>
     requires fits { IsWish wish.now }
-    ensures wrote { Wrote job.now (record { files = P.files place.old; writes = P.write_faults place.old; counts = P.counts place.old }) (record { files = P.files place.new; writes = P.write_faults place.new; counts = P.counts place.new }) ((job.now.supervoxels, table_text (supervoxel_rows wish.now)) ∷ []) result }
-    ensures later { IsLater (record { files = P.files place.old; writes = P.write_faults place.old; counts = P.counts place.old }) (record { files = P.files place.new; writes = P.write_faults place.new; counts = P.counts place.new }) }
-    ensures reads { P.read_faults place.new ≡ P.read_faults place.old }
+    ensures wrote { Wrote job.now (P.state place.old) (P.state place.new)
+        ((job.now.supervoxels, table_text (supervoxel_rows wish.now)) ∷ []) result }
+    ensures later { IsLater (P.state place.old) (P.state place.new) }
+    ensures reads { (P.state place.new).reads ≡ (P.state place.old).reads }
 {
     let table = SupervoxelTable { wish };
     write_one(
@@ -93,9 +95,11 @@ fn write_edges<P: Place>(
 ) -> Result<u64, MakeStop>
     requires fits { IsWish wish.now }
     requires made { All (IsMade wish.now) edges.now }
-    ensures wrote { Wrote job.now (record { files = P.files place.old; writes = P.write_faults place.old; counts = P.counts place.old }) (record { files = P.files place.new; writes = P.write_faults place.new; counts = P.counts place.new }) ((job.now.edges, table_text (edge_header ∷ map (edge_fields wish.now) edges.now)) ∷ []) result }
-    ensures later { IsLater (record { files = P.files place.old; writes = P.write_faults place.old; counts = P.counts place.old }) (record { files = P.files place.new; writes = P.write_faults place.new; counts = P.counts place.new }) }
-    ensures reads { P.read_faults place.new ≡ P.read_faults place.old }
+    ensures wrote { Wrote job.now (P.state place.old) (P.state place.new)
+        ((job.now.edges, table_text (edge_header ∷ map (edge_fields wish.now) edges.now))
+        ∷ []) result }
+    ensures later { IsLater (P.state place.old) (P.state place.new) }
+    ensures reads { (P.state place.new).reads ≡ (P.state place.old).reads }
 {
     let table = EdgeTable { wish, edges };
     write_one(job, MadeFile::Edges, &job.edges, &table, piece, place)
@@ -115,10 +119,14 @@ fn write_stream<P: Place>(
     requires fits { IsWish wish.now }
     requires there { index < length job.now.stems }
     requires few { length job.now.stems ≤ 64 }
-    ensures wrote { Wrote job.now (record { files = P.files place.old; writes = P.write_faults place.old; counts = P.counts place.old }) (record { files = P.files place.new; writes = P.write_faults place.new; counts = P.counts place.new }) ((request_file (get_or job.now.stems index []), (stream_of wish.now from wish.now.requests).0) ∷ []) result }
+    ensures wrote { Wrote job.now (P.state place.old) (P.state place.new)
+        ((
+          request_file (get_or job.now.stems index []),
+          (stream_of wish.now from wish.now.requests).0,
+        ) ∷ []) result }
     ensures state { IfOk result (λ s. s ≡ (stream_of wish.now from wish.now.requests).1) }
-    ensures later { IsLater (record { files = P.files place.old; writes = P.write_faults place.old; counts = P.counts place.old }) (record { files = P.files place.new; writes = P.write_faults place.new; counts = P.counts place.new }) }
-    ensures reads { P.read_faults place.new ≡ P.read_faults place.old }
+    ensures later { IsLater (P.state place.old) (P.state place.new) }
+    ensures reads { (P.state place.new).reads ≡ (P.state place.old).reads }
 {
     let Ok(name) = request_file(alloc, &job.stems.list[index]) else {
         return Err(MakeStop::NoMemory);
@@ -147,9 +155,10 @@ fn write_streams<P: Place>(
     requires fits { IsWish wish.now }
     requires few { length job.now.stems ≤ 64 }
     requires behind { from ≡ (edges_below wish.now wish.now.size).1 }
-    ensures wrote { Wrote job.now (record { files = P.files place.old; writes = P.write_faults place.old; counts = P.counts place.old }) (record { files = P.files place.new; writes = P.write_faults place.new; counts = P.counts place.new }) (streams_at job.now.stems (streams_of wish.now (length job.now.stems)).0) result }
-    ensures later { IsLater (record { files = P.files place.old; writes = P.write_faults place.old; counts = P.counts place.old }) (record { files = P.files place.new; writes = P.write_faults place.new; counts = P.counts place.new }) }
-    ensures reads { P.read_faults place.new ≡ P.read_faults place.old }
+    ensures wrote { Wrote job.now (P.state place.old) (P.state place.new)
+        (streams_at job.now.stems (streams_of wish.now (length job.now.stems)).0) result }
+    ensures later { IsLater (P.state place.old) (P.state place.new) }
+    ensures reads { (P.state place.new).reads ≡ (P.state place.old).reads }
 {
     let mut state = from;
     for index in 0..job.stems.list.len() {
@@ -166,11 +175,13 @@ fn write_streams<P: Place>(
 /// holds a front of its text, if it was opened.
 pub fn make_files<P: Place>(alloc: Global, job: &MakeJob, place: &mut P) -> Result<u32, MakeStop>
     requires { IsMake job.now }
-    ensures wrote { Wrote job.now (record { files = P.files place.old; writes = P.write_faults place.old; counts = P.counts place.old }) (record { files = P.files place.new; writes = P.write_faults place.new; counts = P.counts place.new }) (files_of job.now) result }
-    ensures others { KeepsBut (files_of job.now) (P.files place.old) (P.files place.new) }
+    ensures wrote { Wrote job.now (P.state place.old) (P.state place.new) (files_of job.now)
+        result }
+    ensures others { KeepsBut (files_of job.now) (P.state place.old).files
+        (P.state place.new).files }
     ensures edges { IfOk result (λ count. count ≡ (input_of (wish_of job.now)).edge_count) }
-    ensures later { IsLater (record { files = P.files place.old; writes = P.write_faults place.old; counts = P.counts place.old }) (record { files = P.files place.new; writes = P.write_faults place.new; counts = P.counts place.new }) }
-    ensures reads { P.read_faults place.new ≡ P.read_faults place.old }
+    ensures later { IsLater (P.state place.old) (P.state place.new) }
+    ensures reads { (P.state place.new).reads ≡ (P.state place.old).reads }
 {
     let wish = wish_of(job);
     let Ok(edges) = make_edges(alloc, &wish) else {

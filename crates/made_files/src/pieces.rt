@@ -27,9 +27,11 @@ pub trait Pieces {
         out: &mut K,
     ) -> Result<u64, NoMemory>
         requires { fits self.now }
-        ensures text { OnOk result (Puts (K.held out.old) (K.held out.new) (K.faults out.old) (K.faults out.new) page.old page.new (text self.now)) }
+        ensures text { OnOk result
+            (Puts (K.state out.old) (K.state out.new) page.old page.new (text self.now)) }
         ensures state { IfOk result (λ s. s ≡ state self.now) }
-        ensures front { OnErr result (PutsFront (K.held out.old) (K.held out.new) (K.faults out.old) (K.faults out.new) page.old page.new (text self.now)) };
+        ensures front { OnErr result
+            (PutsFront (K.state out.old) (K.state out.new) page.old page.new (text self.now)) };
 }
 
 /// Writes a text whole and flushes it, or writes a front of it. Answers the state behind it.
@@ -39,13 +41,16 @@ pub fn write_text<T: Pieces, K: Sink>(
     out: &mut K,
 ) -> Result<u64, PlaceError>
     requires { T.fits text.now }
-    ensures whole { OnOk result (Appends (K.held out.old) (K.held out.new) (T.text text.now)) }
-    ensures flushed { OnOk result (IsFlushed (K.held out.new) (K.flushed out.new)) }
+    ensures whole { OnOk result
+        (Appends (K.state out.old).held (K.state out.new).held (T.text text.now)) }
+    ensures flushed { OnOk result (IsFlushed (K.state out.new).held (K.state out.new).flushed) }
     ensures state { IfOk result (λ s. s ≡ T.state text.now) }
-    ensures front { OnErr result (AppendsFront (K.held out.old) (K.held out.new) (T.text text.now)) }
-    ensures later { K.faults out.old ≤ K.faults out.new }
-    ensures still { OnOk result (K.faults out.new ≡ K.faults out.old) }
-    ensures failed { IsErrOf result PlaceError.Failed → Rose (K.faults out.old) (K.faults out.new) }
+    ensures front { OnErr result
+        (AppendsFront (K.state out.old).held (K.state out.new).held (T.text text.now)) }
+    ensures later { (K.state out.old).faults ≤ (K.state out.new).faults }
+    ensures still { OnOk result ((K.state out.new).faults ≡ (K.state out.old).faults) }
+    ensures failed { IsErrOf result PlaceError.Failed
+        → Rose (K.state out.old).faults (K.state out.new).faults }
 {
     let mut page = Page::new();
     match text.put_on(piece, &mut page, out) {

@@ -50,8 +50,12 @@ fn put_supervoxels<K: Sink>(
     out: &mut K,
 ) -> Result<(), NoMemory>
     requires { IsWish wish.now }
-    ensures text { OnOk result (Puts (K.held out.old) (K.held out.new) (K.faults out.old) (K.faults out.new) page.old page.new (table_text (supervoxel_rows wish.now))) }
-    ensures front { OnErr result (PutsFront (K.held out.old) (K.held out.new) (K.faults out.old) (K.faults out.new) page.old page.new (table_text (supervoxel_rows wish.now))) }
+    ensures text { OnOk result
+        (Puts (K.state out.old) (K.state out.new) page.old page.new
+        (table_text (supervoxel_rows wish.now))) }
+    ensures front { OnErr result
+        (PutsFront (K.state out.old) (K.state out.new) page.old page.new
+        (table_text (supervoxel_rows wish.now))) }
 {
     page.put(out, b"supervoxel\n");
     for k in 0..wish.size {
@@ -105,8 +109,12 @@ fn put_edges<K: Sink>(
 ) -> Result<(), NoMemory>
     requires fits { IsWish wish.now }
     requires made { All (IsMade wish.now) edges.now }
-    ensures text { OnOk result (Puts (K.held out.old) (K.held out.new) (K.faults out.old) (K.faults out.new) page.old page.new (table_text (edge_header ∷ map (edge_fields wish.now) edges.now))) }
-    ensures front { OnErr result (PutsFront (K.held out.old) (K.held out.new) (K.faults out.old) (K.faults out.new) page.old page.new (table_text (edge_header ∷ map (edge_fields wish.now) edges.now))) }
+    ensures text { OnOk result
+        (Puts (K.state out.old) (K.state out.new) page.old page.new
+        (table_text (edge_header ∷ map (edge_fields wish.now) edges.now))) }
+    ensures front { OnErr result
+        (PutsFront (K.state out.old) (K.state out.new) page.old page.new
+        (table_text (edge_header ∷ map (edge_fields wish.now) edges.now))) }
 {
     page.put(out, b"a,b,affinity,active\n");
     for edge in edges {
@@ -155,9 +163,13 @@ fn put_stream<K: Sink>(
     out: &mut K,
 ) -> Result<u64, NoMemory>
     requires { IsWish wish.now }
-    ensures text { OnOk result (Puts (K.held out.old) (K.held out.new) (K.faults out.old) (K.faults out.new) page.old page.new (stream_of wish.now from wish.now.requests).0) }
+    ensures text { OnOk result
+        (Puts (K.state out.old) (K.state out.new) page.old page.new
+        (stream_of wish.now from wish.now.requests).0) }
     ensures state { IfOk result (λ s. s ≡ (stream_of wish.now from wish.now.requests).1) }
-    ensures front { OnErr result (PutsFront (K.held out.old) (K.held out.new) (K.faults out.old) (K.faults out.new) page.old page.new (stream_of wish.now from wish.now.requests).0) }
+    ensures front { OnErr result
+        (PutsFront (K.state out.old) (K.state out.new) page.old page.new
+        (stream_of wish.now from wish.now.requests).0) }
 {
     let mut state = from;
     for j in 0..wish.requests {

@@ -1,9 +1,10 @@
 -- Why files weren't made, and what is told of it.
 use Rattle.std.proofs.Common.{◌≡◌, ◌∙◌, ℕ, List, Option, refl, sym, ap, subst, arith, inl, inr}
 use Rattle.std.specs.Prelude.{◌⊎◌}
+use Rattle.pcg_base.specs.States.{PlaceState}
 use Rattle.pcg_base.specs.Causes.{Rose}
 use Rattle.pcg_words.specs.declared.job.MakeJob.{MakeJob}
-use Rattle.made_files.specs.Files.{Seen, StopsSo}
+use Rattle.made_files.specs.Files.{StopsSo}
 use Rattle.made_files.specs.declared.stops.MadeFile.TheVariants as made
 use Rattle.made_files.specs.declared.stops.MakeStop.{MakeStop}
 use Rattle.made_files.specs.declared.stops.MakeStop.TheVariants as makes
@@ -20,7 +21,7 @@ stop_known (makes.Failed made.Edges) = inl refl
 stop_known (makes.Failed (made.Requests client)) = inl refl
 stop_known makes.NoMemory = inr refl
 
-pub stop_rose : (job : MakeJob) (a b : Seen) (stop : MakeStop) (status : ℕ) → status ≡ status_of (stop_of stop) → StopsSo job a b stop → status ≡ 4 → Rose a.writes b.writes
+pub stop_rose : (job : MakeJob) (a b : PlaceState) (stop : MakeStop) (status : ℕ) → status ≡ status_of (stop_of stop) → StopsSo job a b stop → status ≡ 4 → Rose a.writes b.writes
 stop_rose job a b (makes.Failed file) status e h four = h.1
 stop_rose job a b makes.NoMemory status e h four = absurd (omega (arith, e, four))
 

@@ -2,32 +2,32 @@
 use Rattle.std.proofs.Common.{◌≡◌, ℕ, List, Option, Some, None, refl, sym, ◌∙◌, ap, subst, arith, inl, inr}
 use Rattle.std.specs.Prelude.{◌⊎◌}
 use Rattle.pcg_base.specs.Causes.{Rose}
+use Rattle.pcg_base.specs.States.{PlaceState, SinkState}
 use Rattle.pcg_base.specs.Told.{Files, KeepsFiles}
 use Rattle.pcg_words.specs.declared.job.Job.{Job}
 use Rattle.pcg_words.specs.declared.job.Job.TheVariants as job
 use Rattle.pcg_words.specs.declared.job.MakeJob.{MakeJob}
 use Rattle.pcg_words.specs.declared.job.RehearseJob.{RehearseJob}
 use Rattle.job_files.specs.Kept.{KeepsOther}
-use Rattle.job_files.specs.Seen.{Seen}
 use Rattle.made_files.specs.Files.{files_of}
 use Rattle.made_files.specs.Writing.{KeepsBut}
 use Rattle.rehearsal.specs.Exact.{IsQuiet}
 use Rattle.rehearsal.specs.Outcomes.{Outcome, answers_of}
 use Rattle.rehearsal.proofs.Dues.{due}
 use Rattle.rehearsal.proofs.Exact.{complete, is_done, is_faultless, tells}
-use Rattle.pcg_serve.specs.Calls.{IsFaultless, IsJobDone, IsJobDue, IsJobFine, JobOutcome, JobTells, KeepsJobOthers, WordsLost, made_seen}
+use Rattle.pcg_serve.specs.Calls.{IsFaultless, IsJobDone, IsJobDue, IsJobFine, JobOutcome, JobTells, KeepsJobOthers, WordsLost}
 use Rattle.pcg_serve.specs.Making.{IsMade, MakeOutcome, stop_of}
 use Rattle.pcg_serve.proofs.Made.{stop_known, stop_rose}
 
 not_both : {A : Type 0} (n a b : ℕ) → n ≡ a → n ≡ b → (a ≡ b → ⊥) → A
 not_both n a b e f d = absurd (d (sym e ∙ f))
 
-module _ (old new : Seen) (held held' : Option (List ℕ)) (outs outs' status : ℕ) where
-  lost : {A : Type 0} → WordsLost old new held held' outs outs' status → status ≡ 0 → A
+module _ (old new : PlaceState) (out out' : SinkState) (status : ℕ) where
+  lost : {A : Type 0} → WordsLost old new out out' status → status ≡ 0 → A
   lost w z = not_both status 5 0 w.1 z (λ e. omega (arith, e))
 
   -- all files were made, and the line about them was printed
-  made_done : (found : MakeJob) → (new.reads ≡ old.reads) × MakeOutcome found (made_seen old) (made_seen new) held held' outs outs' status → status ≡ 0 → IsMade found old.files new.files held held' × IsFaultless old new outs outs'
+  made_done : (found : MakeJob) → (new.reads ≡ old.reads) × MakeOutcome found old new out out' status → status ≡ 0 → IsMade found old.files new.files out out' × IsFaultless old new out out'
   made_done found (r, inl h) z = elim h.2 [
     | inl p ↦ ((h.0, p.0), (r, h.1, p.1))
     | inr p ↦ not_both status 4 0 p.2 z (λ e. omega (arith, e))
@@ -37,53 +37,53 @@ module _ (old new : Seen) (held held' : Option (List ℕ)) (outs outs' status : 
     | inr k ↦ not_both status 5 0 (h.3 ∙ k) z (λ e. omega (arith, e))
   ]
 
-  made_tells : (found : MakeJob) → MakeOutcome found (made_seen old) (made_seen new) held held' outs outs' status → (status ≡ 0) ⊎ (status ≡ 5) ⊎ ((status ≡ 4) × (Rose old.writes new.writes ⊎ Rose outs outs'))
+  made_tells : (found : MakeJob) → MakeOutcome found old new out out' status → (status ≡ 0) ⊎ (status ≡ 5) ⊎ ((status ≡ 4) × (Rose old.writes new.writes ⊎ Rose out.faults out'.faults))
   made_tells found (inl h) = elim h.2 [
     | inl p ↦ inl p.2
     | inr p ↦ inr (inr (p.2, inr p.1))
   ]
   made_tells found (inr h) = elim (stop_known h.0) [
-    | inl k ↦ (let four = h.3 ∙ k in inr (inr (four, inl (stop_rose found (made_seen old) (made_seen new) h.0 status h.3 h.2 four))))
+    | inl k ↦ (let four = h.3 ∙ k in inr (inr (four, inl (stop_rose found old new h.0 status h.3 h.2 four))))
     | inr k ↦ inr (inl (h.3 ∙ k))
   ]
 
-  pub job_done : (j : Option Job) → JobOutcome j old new held held' outs outs' status → status ≡ 0 → IsJobDone j old new held held'
+  pub job_done : (j : Option Job) → JobOutcome j old new out out' status → status ≡ 0 → IsJobDone j old new out out'
   job_done None (inl h) z = not_both status 1 0 h.1 z (λ e. omega (arith, e))
   job_done None (inr h) z = lost h z
-  job_done (Some (job.Rehearse found)) (inl h) z = is_done found old new held held' outs outs' status h z
+  job_done (Some (job.Rehearse found)) (inl h) z = is_done found old new out out' status h z
   job_done (Some (job.Rehearse found)) (inr h) z = lost h z
   job_done (Some (job.Make found)) (inl h) z = (made_done found h z).0
   job_done (Some (job.Make found)) (inr h) z = lost h z
 
-  pub job_faultless : (j : Option Job) → JobOutcome j old new held held' outs outs' status → status ≡ 0 → IsFaultless old new outs outs'
+  pub job_faultless : (j : Option Job) → JobOutcome j old new out out' status → status ≡ 0 → IsFaultless old new out out'
   job_faultless None (inl h) z = not_both status 1 0 h.1 z (λ e. omega (arith, e))
   job_faultless None (inr h) z = lost h z
-  job_faultless (Some (job.Rehearse found)) (inl h) z = is_faultless found old new held held' outs outs' status h z
+  job_faultless (Some (job.Rehearse found)) (inl h) z = is_faultless found old new out out' status h z
   job_faultless (Some (job.Rehearse found)) (inr h) z = lost h z
   job_faultless (Some (job.Make found)) (inl h) z = (made_done found h z).1
   job_faultless (Some (job.Make found)) (inr h) z = lost h z
 
-  pub job_tells : (j : Option Job) → JobOutcome j old new held held' outs outs' status → JobTells j old new outs outs' status
+  pub job_tells : (j : Option Job) → JobOutcome j old new out out' status → JobTells j old new out out' status
   job_tells None (inl h) = inl h.1
   job_tells None (inr h) = inr h.1
-  job_tells (Some (job.Rehearse found)) (inl h) = tells found old new held held' outs outs' status h
+  job_tells (Some (job.Rehearse found)) (inl h) = tells found old new out out' status h
   job_tells (Some (job.Rehearse found)) (inr h) = inr (inl h.1)
   job_tells (Some (job.Make found)) (inl h) = made_tells found h.1
   job_tells (Some (job.Make found)) (inr h) = inr (inl h.1)
 
-  pub job_due : (j : Option Job) → JobOutcome j old new held held' outs outs' status → (s : ℕ) → IsJobDue old.files j s → (status ≡ s) ⊎ (status ≡ 2) ⊎ (status ≡ 5)
+  pub job_due : (j : Option Job) → JobOutcome j old new out out' status → (s : ℕ) → IsJobDue old.files j s → (status ≡ s) ⊎ (status ≡ 2) ⊎ (status ≡ 5)
   job_due None h s d = absurd d
-  job_due (Some (job.Rehearse found)) (inl h) s d = due found old new held held' outs outs' status h s d
+  job_due (Some (job.Rehearse found)) (inl h) s d = due found old new out out' status h s d
   job_due (Some (job.Rehearse found)) (inr h) s d = inr (inr h.1)
   job_due (Some (job.Make found)) h s d = absurd d
 
-  pub job_complete : (j : Option Job) → JobOutcome j old new held held' outs outs' status → IsQuiet old new outs outs' → IsJobFine old.files j → (status ≡ 0) ⊎ (status ≡ 5)
+  pub job_complete : (j : Option Job) → JobOutcome j old new out out' status → IsQuiet old new out out' → IsJobFine old.files j → (status ≡ 0) ⊎ (status ≡ 5)
   job_complete None h q f = absurd f
-  job_complete (Some (job.Rehearse found)) (inl h) q f = complete found old new held held' outs outs' status h q f
+  job_complete (Some (job.Rehearse found)) (inl h) q f = complete found old new out out' status h q f
   job_complete (Some (job.Rehearse found)) (inr h) q f = inr h.1
   job_complete (Some (job.Make found)) (inl h) q f = quiet (made_tells found h.1)
     where
-      quiet : (status ≡ 0) ⊎ (status ≡ 5) ⊎ ((status ≡ 4) × (Rose old.writes new.writes ⊎ Rose outs outs')) → (status ≡ 0) ⊎ (status ≡ 5)
+      quiet : (status ≡ 0) ⊎ (status ≡ 5) ⊎ ((status ≡ 4) × (Rose old.writes new.writes ⊎ Rose out.faults out'.faults)) → (status ≡ 0) ⊎ (status ≡ 5)
       quiet (inl z) = inl z
       quiet (inr (inl n)) = inr n
       quiet (inr (inr (four, inl r))) = absurd (q.1 r)
@@ -91,13 +91,13 @@ module _ (old new : Seen) (held held' : Option (List ℕ)) (outs outs' status : 
   job_complete (Some (job.Make found)) (inr h) q f = inr h.1
 
 -- the same of a job whose mode is known
-pub rehearsed_outcome : (j : Job) (found : RehearseJob) (old new : Seen) (held held' : Option (List ℕ)) (outs outs' status : ℕ) → j ≡ job.Rehearse found → Outcome found old new held held' outs outs' status
-    → JobOutcome (Some j) old new held held' outs outs' status
-rehearsed_outcome j found old new held held' outs outs' status e h = subst (λ (x : Job). JobOutcome (Some x) old new held held' outs outs' status) (sym e) (inl h)
+pub rehearsed_outcome : (j : Job) (found : RehearseJob) (old new : PlaceState) (out out' : SinkState) (status : ℕ) → j ≡ job.Rehearse found → Outcome found old new out out' status
+    → JobOutcome (Some j) old new out out' status
+rehearsed_outcome j found old new out out' status e h = subst (λ (x : Job). JobOutcome (Some x) old new out out' status) (sym e) (inl h)
 
-pub made_outcome : (j : Job) (found : MakeJob) (old new : Seen) (held held' : Option (List ℕ)) (outs outs' status : ℕ) → j ≡ job.Make found → new.reads ≡ old.reads
-    → MakeOutcome found (made_seen old) (made_seen new) held held' outs outs' status → JobOutcome (Some j) old new held held' outs outs' status
-made_outcome j found old new held held' outs outs' status e r h = subst (λ (x : Job). JobOutcome (Some x) old new held held' outs outs' status) (sym e) (inl (r, h))
+pub made_outcome : (j : Job) (found : MakeJob) (old new : PlaceState) (out out' : SinkState) (status : ℕ) → j ≡ job.Make found → new.reads ≡ old.reads
+    → MakeOutcome found old new out out' status → JobOutcome (Some j) old new out out' status
+made_outcome j found old new out out' status e r h = subst (λ (x : Job). JobOutcome (Some x) old new out out' status) (sym e) (inl (r, h))
 
 pub rehearsed_others : (j : Job) (found : RehearseJob) (f g : Option Files) → j ≡ job.Rehearse found → KeepsOther f (answers_of found) g → KeepsJobOthers (Some j) f g
 rehearsed_others j found f g e h = subst (λ (x : Job). KeepsJobOthers (Some x) f g) (sym e) h

@@ -1,6 +1,7 @@
 -- What a call of the program comes to, by the mode of its job.
 use Rattle.std.specs.Prelude.{◌≡◌, ◌≤◌, ◌⊎◌, ⊤, ℕ, List, Option, Some, None}
 use Rattle.pcg_base.specs.Causes.{Rose}
+use Rattle.pcg_base.specs.States.{PlaceState, SinkState}
 use Rattle.pcg_base.specs.Told.{Files, KeepsFiles}
 use Rattle.pcg_words.specs.declared.job.Job.{Job}
 use Rattle.pcg_words.specs.declared.job.Job.TheVariants as job
@@ -8,50 +9,45 @@ use Rattle.call_lines.specs.declared.stops.Stop.TheVariants as stops
 use Rattle.call_lines.specs.Printing.{Prints}
 use Rattle.call_lines.specs.Texts.{stop_text}
 use Rattle.job_files.specs.Kept.{KeepsOther}
-use Rattle.job_files.specs.Seen.{Seen}
 use Rattle.made_files.specs.Files as made
 use Rattle.made_files.specs.Writing.{KeepsBut}
 use Rattle.rehearsal.specs.Exact.{IsDue, IsFine, Tells}
 use Rattle.rehearsal.specs.Outcomes.{IsDone, Outcome, answers_of}
 use Rattle.pcg_serve.specs.Making.{IsMade, MakeOutcome}
 
--- a place as the crate that makes files sees it
-abbrev pub made_seen : Seen → made.Seen
-made_seen s = record { files = s.files; writes = s.writes; counts = s.counts }
-
 -- memory ran out over the words, and no file changed
-abbrev pub WordsLost : Seen → Seen → Option (List ℕ) → Option (List ℕ) → ℕ → ℕ → ℕ → Type 0
-WordsLost old new held held' outs outs' status = KeepsFiles old.files new.files × (status ≡ 5) × Prints held held' outs outs' (stop_text stops.NoMemory)
+abbrev pub WordsLost : PlaceState → PlaceState → SinkState → SinkState → ℕ → Type 0
+WordsLost old new out out' status = KeepsFiles old.files new.files × (status ≡ 5) × Prints out out' (stop_text stops.NoMemory)
 
 -- The words spell no job, and no file changed; or the outcome is that of their job's mode, or memory ran out over them.
-abbrev pub JobOutcome : Option Job → Seen → Seen → Option (List ℕ) → Option (List ℕ) → ℕ → ℕ → ℕ → Type 0
-JobOutcome None old new held held' outs outs' status =
-    (KeepsFiles old.files new.files × (status ≡ 1) × Prints held held' outs outs' (stop_text stops.BadWords)) ⊎ WordsLost old new held held' outs outs' status
-JobOutcome (Some (job.Rehearse found)) old new held held' outs outs' status =
-    Outcome found old new held held' outs outs' status ⊎ WordsLost old new held held' outs outs' status
-JobOutcome (Some (job.Make found)) old new held held' outs outs' status =
-    ((new.reads ≡ old.reads) × MakeOutcome found (made_seen old) (made_seen new) held held' outs outs' status) ⊎ WordsLost old new held held' outs outs' status
+abbrev pub JobOutcome : Option Job → PlaceState → PlaceState → SinkState → SinkState → ℕ → Type 0
+JobOutcome None old new out out' status =
+    (KeepsFiles old.files new.files × (status ≡ 1) × Prints out out' (stop_text stops.BadWords)) ⊎ WordsLost old new out out' status
+JobOutcome (Some (job.Rehearse found)) old new out out' status =
+    Outcome found old new out out' status ⊎ WordsLost old new out out' status
+JobOutcome (Some (job.Make found)) old new out out' status =
+    ((new.reads ≡ old.reads) × MakeOutcome found old new out out' status) ⊎ WordsLost old new out out' status
 
 -- what status 0 promises
-abbrev pub IsJobDone : Option Job → Seen → Seen → Option (List ℕ) → Option (List ℕ) → Type 0
-IsJobDone None old new held held' = ⊥
-IsJobDone (Some (job.Rehearse found)) old new held held' = IsDone found old new held held'
-IsJobDone (Some (job.Make found)) old new held held' = IsMade found old.files new.files held held'
+abbrev pub IsJobDone : Option Job → PlaceState → PlaceState → SinkState → SinkState → Type 0
+IsJobDone None old new out out' = ⊥
+IsJobDone (Some (job.Rehearse found)) old new out out' = IsDone found old new out out'
+IsJobDone (Some (job.Make found)) old new out out' = IsMade found old.files new.files out out'
 
 -- each count stood still
-abbrev pub IsFaultless : Seen → Seen → ℕ → ℕ → Type 0
-IsFaultless old new outs outs' = (new.reads ≡ old.reads) × (new.writes ≡ old.writes) × (outs' ≡ outs)
+abbrev pub IsFaultless : PlaceState → PlaceState → SinkState → SinkState → Type 0
+IsFaultless old new out out' = (new.reads ≡ old.reads) × (new.writes ≡ old.writes) × (out'.faults ≡ out.faults)
 
 -- neither count of the place fell
-abbrev pub NoneFell : Seen → Seen → Type 0
+abbrev pub NoneFell : PlaceState → PlaceState → Type 0
 NoneFell old new = (old.reads ≤ new.reads) × (old.writes ≤ new.writes)
 
 -- what a status tells: 1 comes just where the words spell no job, and 5 at any time
-abbrev pub JobTells : Option Job → Seen → Seen → ℕ → ℕ → ℕ → Type 0
-JobTells None old new outs outs' status = (status ≡ 1) ⊎ (status ≡ 5)
-JobTells (Some (job.Rehearse found)) old new outs outs' status = Tells found old new outs outs' status
-JobTells (Some (job.Make found)) old new outs outs' status =
-    (status ≡ 0) ⊎ (status ≡ 5) ⊎ ((status ≡ 4) × (Rose old.writes new.writes ⊎ Rose outs outs'))
+abbrev pub JobTells : Option Job → PlaceState → PlaceState → SinkState → SinkState → ℕ → Type 0
+JobTells None old new out out' status = (status ≡ 1) ⊎ (status ≡ 5)
+JobTells (Some (job.Rehearse found)) old new out out' status = Tells found old new out out' status
+JobTells (Some (job.Make found)) old new out out' status =
+    (status ≡ 0) ⊎ (status ≡ 5) ⊎ ((status ≡ 4) × (Rose old.writes new.writes ⊎ Rose out.faults out'.faults))
 
 -- the status that the input of the words' job asks for
 abbrev pub IsJobDue : Option Files → Option Job → ℕ → Type 0

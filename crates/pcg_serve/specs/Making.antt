@@ -2,10 +2,11 @@
 use Rattle.std.specs.Prelude.{◌≡◌, ◌*◌, ◌⊎◌, ℕ, List, length, Option}
 use Rattle.std.specs.Io.KnownBytes.{Appends}
 use Rattle.pcg_base.specs.Causes.{Rose}
+use Rattle.pcg_base.specs.States.{PlaceState, SinkState}
 use Rattle.pcg_base.specs.Told.{AppendsFront, Files}
 use Rattle.pcg_words.specs.declared.job.MakeJob.{MakeJob}
 use Rattle.made_input.specs.Texts.{input_of}
-use Rattle.made_files.specs.Files.{Seen, StopsSo, files_of, wish_of}
+use Rattle.made_files.specs.Files.{StopsSo, files_of, wish_of}
 use Rattle.made_files.specs.Writing.{PutsAll, PutsSome}
 use Rattle.made_files.specs.declared.stops.MadeFile.TheVariants as made
 use Rattle.made_files.specs.declared.stops.MakeStop.{MakeStop}
@@ -29,16 +30,16 @@ abbrev pub made_text : MakeJob → List ℕ
 made_text job = made_line (input_of (wish_of job)).edge_count (length job.stems * job.requests) job.size
 
 -- where place and output tell their bytes, all files were made, and just that line was printed
-abbrev pub IsMade : MakeJob → Option Files → Option Files → Option (List ℕ) → Option (List ℕ) → Type 0
-IsMade job before after old new = PutsAll before after (files_of job) × Appends old new (made_text job)
+abbrev pub IsMade : MakeJob → Option Files → Option Files → SinkState → SinkState → Type 0
+IsMade job before after out out' = PutsAll before after (files_of job) × Appends out.held out'.held (made_text job)
 
 -- the line was printed, or the output failed and has a front of it
-abbrev pub MadePrinted : Option (List ℕ) → Option (List ℕ) → ℕ → ℕ → List ℕ → ℕ → Type 0
-MadePrinted held held' outs outs' text status =
-    (Appends held held' text × (outs' ≡ outs) × (status ≡ 0)) ⊎ (AppendsFront held held' text × Rose outs outs' × (status ≡ 4))
+abbrev pub MadePrinted : SinkState → SinkState → List ℕ → ℕ → Type 0
+MadePrinted out out' text status =
+    (Appends out.held out'.held text × (out'.faults ≡ out.faults) × (status ≡ 0)) ⊎ (AppendsFront out.held out'.held text × Rose out.faults out'.faults × (status ≡ 4))
 
 -- All files were made and no count rose, and the line about them was printed unless the output failed. Or only some first ones were made and at most a front of the next one, for this reason, and the fault line alone was printed.
-abbrev pub MakeOutcome : MakeJob → Seen → Seen → Option (List ℕ) → Option (List ℕ) → ℕ → ℕ → ℕ → Type 0
-MakeOutcome job old new held held' outs outs' status =
-    (PutsAll old.files new.files (files_of job) × (new.writes ≡ old.writes) × MadePrinted held held' outs outs' (made_text job) status)
-    ⊎ ((stop : MakeStop) × PutsSome old.files new.files (files_of job) × StopsSo job old new stop × (status ≡ status_of (stop_of stop)) × Prints held held' outs outs' (stop_text (stop_of stop)))
+abbrev pub MakeOutcome : MakeJob → PlaceState → PlaceState → SinkState → SinkState → ℕ → Type 0
+MakeOutcome job old new out out' status =
+    (PutsAll old.files new.files (files_of job) × (new.writes ≡ old.writes) × MadePrinted out out' (made_text job) status)
+    ⊎ ((stop : MakeStop) × PutsSome old.files new.files (files_of job) × StopsSo job old new stop × (status ≡ status_of (stop_of stop)) × Prints out out' (stop_text (stop_of stop)))

@@ -3,7 +3,6 @@
 ghost use Rattle.std.specs.Prelude.{◌≡◌, ◌≤◌, ◌⊎◌, ℕ, Some};
 ghost use Rattle.pcg_base.specs.Told.{IsFlushed};
 ghost use Rattle.pcg_words.specs.Words.{MeetsMode, job_of};
-ghost use Rattle.job_files.specs.Seen.{seen};
 ghost use Rattle.rehearsal.specs.Exact.{IsQuiet};
 ghost use Rattle.pcg_serve.specs.Calls.{IsFaultless, IsJobDone, IsJobDue, IsJobFine, JobOutcome, JobTells, KeepsJobOthers, NoneFell};
 
@@ -29,20 +28,28 @@ where
     P::In: Drop,
     P::Out: Drop,
     // what the call came to, whatever that is
-    ensures outcome { JobOutcome (job_of words.now) (seen P.files P.left_at P.read_faults P.write_faults P.counts place.old) (seen P.files P.left_at P.read_faults P.write_faults P.counts place.new) (K.held out.old) (K.held out.new) (K.faults out.old) (K.faults out.new) result }
+    ensures outcome { JobOutcome (job_of words.now) (P.state place.old) (P.state place.new)
+        (K.state out.old) (K.state out.new) result }
     // status 0
-    ensures done { result ≡ 0 → IsJobDone (job_of words.now) (seen P.files P.left_at P.read_faults P.write_faults P.counts place.old) (seen P.files P.left_at P.read_faults P.write_faults P.counts place.new) (K.held out.old) (K.held out.new) }
-    ensures faultless { result ≡ 0 → IsFaultless (seen P.files P.left_at P.read_faults P.write_faults P.counts place.old) (seen P.files P.left_at P.read_faults P.write_faults P.counts place.new) (K.faults out.old) (K.faults out.new) }
-    ensures flushed { result ≡ 0 → IsFlushed (K.held out.new) (K.flushed out.new) }
+    ensures done { result ≡ 0
+        → IsJobDone (job_of words.now) (P.state place.old) (P.state place.new) (K.state out.old)
+        (K.state out.new) }
+    ensures faultless { result ≡ 0
+        → IsFaultless (P.state place.old) (P.state place.new) (K.state out.old) (K.state out.new) }
+    ensures flushed { result ≡ 0 → IsFlushed (K.state out.new).held (K.state out.new).flushed }
     // other statuses: what each tells, which one an input asks for, and that an input of its form gets 0
-    ensures tells { JobTells (job_of words.now) (seen P.files P.left_at P.read_faults P.write_faults P.counts place.old) (seen P.files P.left_at P.read_faults P.write_faults P.counts place.new) (K.faults out.old) (K.faults out.new) result }
-    ensures due { (s : ℕ) → IsJobDue (P.files place.old) (job_of words.now) s → (result ≡ s) ⊎ (result ≡ 2) ⊎ (result ≡ 5) }
-    ensures complete { IsQuiet (seen P.files P.left_at P.read_faults P.write_faults P.counts place.old) (seen P.files P.left_at P.read_faults P.write_faults P.counts place.new) (K.faults out.old) (K.faults out.new)
-        → IsJobFine (P.files place.old) (job_of words.now) → (result ≡ 0) ⊎ (result ≡ 5) }
+    ensures tells { JobTells (job_of words.now) (P.state place.old) (P.state place.new)
+        (K.state out.old) (K.state out.new) result }
+    ensures due { (s : ℕ) → IsJobDue (P.state place.old).files (job_of words.now) s
+        → (result ≡ s) ⊎ (result ≡ 2) ⊎ (result ≡ 5) }
+    ensures complete { IsQuiet (P.state place.old) (P.state place.new) (K.state out.old)
+        (K.state out.new)
+        → IsJobFine (P.state place.old).files (job_of words.now) → (result ≡ 0) ⊎ (result ≡ 5) }
     // whatever it answers
-    ensures others { KeepsJobOthers (job_of words.now) (P.files place.old) (P.files place.new) }
-    ensures later { NoneFell (seen P.files P.left_at P.read_faults P.write_faults P.counts place.old) (seen P.files P.left_at P.read_faults P.write_faults P.counts place.new) }
-    ensures output { K.faults out.old ≤ K.faults out.new }
+    ensures others { KeepsJobOthers (job_of words.now) (P.state place.old).files
+        (P.state place.new).files }
+    ensures later { NoneFell (P.state place.old) (P.state place.new) }
+    ensures output { (K.state out.old).faults ≤ (K.state out.new).faults }
 {
     do_words(alloc, words, place, out)
 }
@@ -52,11 +59,13 @@ fn do_words<P: Place, K: Sink>(alloc: Global, words: &[Vec<u8>], place: &mut P, 
 where
     P::In: Drop,
     P::Out: Drop,
-    ensures outcome { JobOutcome (job_of words.now) (seen P.files P.left_at P.read_faults P.write_faults P.counts place.old) (seen P.files P.left_at P.read_faults P.write_faults P.counts place.new) (K.held out.old) (K.held out.new) (K.faults out.old) (K.faults out.new) result }
-    ensures flushed { result ≡ 0 → IsFlushed (K.held out.new) (K.flushed out.new) }
-    ensures others { KeepsJobOthers (job_of words.now) (P.files place.old) (P.files place.new) }
-    ensures later { NoneFell (seen P.files P.left_at P.read_faults P.write_faults P.counts place.old) (seen P.files P.left_at P.read_faults P.write_faults P.counts place.new) }
-    ensures output { K.faults out.old ≤ K.faults out.new }
+    ensures outcome { JobOutcome (job_of words.now) (P.state place.old) (P.state place.new)
+        (K.state out.old) (K.state out.new) result }
+    ensures flushed { result ≡ 0 → IsFlushed (K.state out.new).held (K.state out.new).flushed }
+    ensures others { KeepsJobOthers (job_of words.now) (P.state place.old).files
+        (P.state place.new).files }
+    ensures later { NoneFell (P.state place.old) (P.state place.new) }
+    ensures output { (K.state out.old).faults ≤ (K.state out.new).faults }
 {
     match read_words(alloc, words) {
         Ok(job) => do_job(alloc, &job, place, out),
@@ -71,11 +80,13 @@ where
     P::In: Drop,
     P::Out: Drop,
     requires { MeetsMode job.now }
-    ensures outcome { JobOutcome (Some job.now) (seen P.files P.left_at P.read_faults P.write_faults P.counts place.old) (seen P.files P.left_at P.read_faults P.write_faults P.counts place.new) (K.held out.old) (K.held out.new) (K.faults out.old) (K.faults out.new) result }
-    ensures flushed { result ≡ 0 → IsFlushed (K.held out.new) (K.flushed out.new) }
-    ensures others { KeepsJobOthers (Some job.now) (P.files place.old) (P.files place.new) }
-    ensures later { NoneFell (seen P.files P.left_at P.read_faults P.write_faults P.counts place.old) (seen P.files P.left_at P.read_faults P.write_faults P.counts place.new) }
-    ensures output { K.faults out.old ≤ K.faults out.new }
+    ensures outcome { JobOutcome (Some job.now) (P.state place.old) (P.state place.new)
+        (K.state out.old) (K.state out.new) result }
+    ensures flushed { result ≡ 0 → IsFlushed (K.state out.new).held (K.state out.new).flushed }
+    ensures others { KeepsJobOthers (Some job.now) (P.state place.old).files
+        (P.state place.new).files }
+    ensures later { NoneFell (P.state place.old) (P.state place.new) }
+    ensures output { (K.state out.old).faults ≤ (K.state out.new).faults }
 {
     match job {
         Job::Rehearse(job) => run_rehearse(alloc, job, place, out),

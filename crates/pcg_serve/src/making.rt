@@ -52,7 +52,8 @@ fn stop_of(stop: MakeStop) -> Stop
 /// Puts the line of a call that made all files.
 #[tactic(auto, unfolding(call_lines::specs::Texts::made_line))]
 fn put_made<K: Sink>(page: &mut Page, out: &mut K, edges: u64, lines: u64, supervoxels: u64)
-    ensures { Puts (K.held out.old) (K.held out.new) (K.faults out.old) (K.faults out.new) page.old page.new (made_line edges lines supervoxels) }
+    ensures { Puts (K.state out.old) (K.state out.new) page.old page.new
+        (made_line edges lines supervoxels) }
 {
     page.put_number(out, b"{\"edges\":", edges);
     page.put_number(out, b",\"lines\":", lines);
@@ -65,10 +66,14 @@ fn put_made<K: Sink>(page: &mut Page, out: &mut K, edges: u64, lines: u64, super
 /// is flushed. After `Failed` a front of it was written.
 #[tactic(auto, using(request_lines::proofs::Whole::whole_ok))]
 fn write_made<K: Sink>(edges: u64, lines: u64, supervoxels: u64, out: &mut K) -> Result<(), Failed>
-    ensures ok { OnOk result (Appends (K.held out.old) (K.held out.new) (made_line edges lines supervoxels)) }
-    ensures err { OnErr result (AppendsFront (K.held out.old) (K.held out.new) (made_line edges lines supervoxels)) }
-    ensures flushed { OnOk result (IsFlushed (K.held out.new) (K.flushed out.new)) }
-    ensures cause { HasCause (K.faults out.old) (K.faults out.new) result }
+    ensures ok { OnOk result
+        (Appends (K.state out.old).held (K.state out.new).held
+        (made_line edges lines supervoxels)) }
+    ensures err { OnErr result
+        (AppendsFront (K.state out.old).held (K.state out.new).held
+        (made_line edges lines supervoxels)) }
+    ensures flushed { OnOk result (IsFlushed (K.state out.new).held (K.state out.new).flushed) }
+    ensures cause { HasCause (K.state out.old).faults (K.state out.new).faults result }
 {
     let mut page = Page::new();
     put_made(&mut page, out, edges, lines, supervoxels);
@@ -79,9 +84,9 @@ fn write_made<K: Sink>(edges: u64, lines: u64, supervoxels: u64, out: &mut K) ->
 fn finish_made<K: Sink>(job: &MakeJob, edges: u32, out: &mut K) -> u8
     requires few { (length job.now.stems ≤ 64) × (job.now.requests ≤ 100000) }
     requires edges { edges ≡ (input_of (wish_of job.now)).edge_count }
-    ensures printed { MadePrinted (K.held out.old) (K.held out.new) (K.faults out.old) (K.faults out.new) (made_text job.now) result }
-    ensures flushed { result ≡ 0 → IsFlushed (K.held out.new) (K.flushed out.new) }
-    ensures later { K.faults out.old ≤ K.faults out.new }
+    ensures printed { MadePrinted (K.state out.old) (K.state out.new) (made_text job.now) result }
+    ensures flushed { result ≡ 0 → IsFlushed (K.state out.new).held (K.state out.new).flushed }
+    ensures later { (K.state out.old).faults ≤ (K.state out.new).faults }
 {
     let lines = job.stems.list.len() as u64 * job.requests;
     match write_made(edges as u64, lines, job.size, out) {
@@ -98,12 +103,14 @@ fn finish_made<K: Sink>(job: &MakeJob, edges: u32, out: &mut K) -> u8
 /// - 5: memory ran out.
 pub fn run_make<P: Place, K: Sink>(alloc: Global, job: &MakeJob, place: &mut P, out: &mut K) -> u8
     requires { IsMake job.now }
-    ensures flushed { result ≡ 0 → IsFlushed (K.held out.new) (K.flushed out.new) }
-    ensures outcome { MakeOutcome job.now (record { files = P.files place.old; writes = P.write_faults place.old; counts = P.counts place.old }) (record { files = P.files place.new; writes = P.write_faults place.new; counts = P.counts place.new }) (K.held out.old) (K.held out.new) (K.faults out.old) (K.faults out.new) result }
-    ensures others { KeepsBut (files_of job.now) (P.files place.old) (P.files place.new) }
-    ensures reads { P.read_faults place.new ≡ P.read_faults place.old }
-    ensures writes { P.write_faults place.old ≤ P.write_faults place.new }
-    ensures later { K.faults out.old ≤ K.faults out.new }
+    ensures flushed { result ≡ 0 → IsFlushed (K.state out.new).held (K.state out.new).flushed }
+    ensures outcome { MakeOutcome job.now (P.state place.old) (P.state place.new) (K.state out.old)
+        (K.state out.new) result }
+    ensures others { KeepsBut (files_of job.now) (P.state place.old).files
+        (P.state place.new).files }
+    ensures reads { (P.state place.new).reads ≡ (P.state place.old).reads }
+    ensures writes { (P.state place.old).writes ≤ (P.state place.new).writes }
+    ensures later { (K.state out.old).faults ≤ (K.state out.new).faults }
 {
     match make_files(alloc, job, place) {
         Ok(edges) => finish_made(job, edges, out),

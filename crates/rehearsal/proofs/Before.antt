@@ -2,8 +2,9 @@
 use Rattle.std.proofs.Common.{◌≡◌, ◌≤◌, ◌<◌, ℕ, pred, ◌+◌, ◌-◌, ◌^◌, min, List, [], ◌∷◌, length, take, Option, Some, None, refl, sym, ◌∙◌, ap, subst, arith, inl, inr}
 use Rattle.std.specs.Prelude.{◌⊎◌, slice_get}
 use Rattle.pcg_base.specs.Causes.{Rose}
+use Rattle.pcg_base.specs.States.{PlaceState}
 use Rattle.pcg_base.specs.Told.{Counts, Files, KeepsFiles}
-use Rattle.job_files.specs.Seen.{ReadRose, Seen, WasOpened, WriteRose}
+use Rattle.job_files.specs.Places.{ReadRose, WasOpened, WriteRose}
 use Rattle.job_files.specs.Clients.{FrontWhole}
 use Rattle.call_lines.specs.declared.stops.FileName.TheVariants as files
 use Rattle.call_lines.specs.declared.stops.Stop.{Stop}
@@ -20,7 +21,7 @@ was_opened : (a b : Option Files) (left : List ℕ → List ℕ) (name : List �
 was_opened None b left name h k = tt
 was_opened (Some m) b left name h k = subst (λ f. WasOpened f left name) h k
 
-module _ (o s t : Seen) (before : IsBefore o s) where
+module _ (o s t : PlaceState) (before : IsBefore o s) where
   read_rose : (name : List ℕ) → ReadRose s t name → ReadRose o t name
   read_rose name h = record {
     place = subst (λ n. Rose n t.reads) before.reads h.place;

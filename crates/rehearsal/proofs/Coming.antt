@@ -5,13 +5,13 @@ use Rattle.std.specs.List.{list_any}
 use Rattle.op_model.specs.Records.{records}
 use Rattle.histories.specs.Histories.{live_roots}
 use Rattle.histories.proofs.EachLog.{ids_stay, leaves_are_joined, roots_are_joined}
+use Rattle.pcg_base.specs.States.{PlaceState, SinkState}
 use Rattle.pcg_base.specs.Told.{KeepsFiles}
 use Rattle.pcg_words.specs.declared.job.RehearseJob.{RehearseJob}
 use Rattle.pcg_words.specs.Job.{IsRehearse, request_file}
 use Rattle.call_lines.specs.Texts.{summary_line}
 use Rattle.call_lines.specs.declared.stops.Stop.{Stop}
 use Rattle.log_lines.specs.LogTexts.{log_text}
-use Rattle.job_files.specs.Seen.{Seen}
 use Rattle.job_tables.specs.declared.tables.JobBase.{JobBase}
 use Rattle.job_tables.specs.Inputs.{IsRead, dataset_of}
 use Rattle.job_tables.specs.Stops.{AllRead}
@@ -24,7 +24,7 @@ use Rattle.rehearsal.specs.Served.{AreServed, IsServed}
 use Rattle.rehearsal.proofs.Before.{stop_before}
 use Rattle.rehearsal.proofs.Left.{all_read}
 
-module _ (job : RehearseJob) (old new : Seen) (done : SessionsDone) (q : IsServed job old new done) where
+module _ (job : RehearseJob) (old new : PlaceState) (done : SessionsDone) (q : IsServed job old new done) where
   abbrev text : List ℕ
   text = whole_text (dataset_of job) q.base q.served.log (length job.stems) done.faults.items done.lines done.refused
 
@@ -61,13 +61,13 @@ module _ (job : RehearseJob) (old new : Seen) (done : SessionsDone) (q : IsServe
         play = s.play;
       }
 
-  pub came_out : (held held' : Option (List ℕ)) (outs outs' status : ℕ)
-      → Printed held held' outs outs' (whole_text (dataset_of job) q.base q.served.log (length job.stems) done.faults.items done.lines done.refused) (status_for done.faults.items) status
-      → Outcome job old new held held' outs outs' status
-  came_out held held' outs outs' status p = inr (_, _, came_past, p)
+  pub came_out : (out out' : SinkState) (status : ℕ)
+      → Printed out out' (whole_text (dataset_of job) q.base q.served.log (length job.stems) done.faults.items done.lines done.refused) (status_for done.faults.items) status
+      → Outcome job old new out out' status
+  came_out out out' status p = inr (_, _, came_past, p)
 
 -- the sessions didn't begin, told from the call's start
-pub sessions_stop : (job : RehearseJob) → IsRehearse job → (o s t : Seen) (input : JobBase) (stop : Stop) → IsBefore o s → IsRead o.files job input → AllRead o.files s.left job → ClientsStop job s t stop
+pub sessions_stop : (job : RehearseJob) → IsRehearse job → (o s t : PlaceState) (input : JobBase) (stop : Stop) → IsBefore o s → IsRead o.files job input → AllRead o.files s.left job → ClientsStop job s t stop
     → ((n : List ℕ) → list_any (bytes_eq n) (requests_of job) ≡ false → t.left n ≡ s.left n) → StopCause job o t stop
 sessions_stop job ok o s t input stop before read all h away =
     inr (
@@ -77,7 +77,7 @@ sessions_stop job ok o s t input stop before read all h away =
     )
 
 -- they did
-pub is_served : (job : RehearseJob) → IsRehearse job → (o s t : Seen) (input : JobBase) (done : SessionsDone) → IsBefore o s → (read : IsRead o.files job input) → AllRead o.files s.left job
+pub is_served : (job : RehearseJob) → IsRehearse job → (o s t : PlaceState) (input : JobBase) (done : SessionsDone) → IsBefore o s → (read : IsRead o.files job input) → AllRead o.files s.left job
     → AreServed (dataset_of job) read.base job.clock input.schedule.items job.stems o t done → ((n : List ℕ) → list_any (bytes_eq n) (requests_of job) ≡ false → t.left n ≡ s.left n) → IsServed job o t done
 is_served job ok o s t input done before read all h away = record {
   base = read.base;

@@ -7,6 +7,7 @@ use Rattle.op_model.specs.declared.base.Base.{Base}
 use Rattle.hierarchy_build.specs.declared.errors.BuildError.{BuildError}
 use Rattle.hierarchy_build.specs.declared.errors.BuildError.TheVariants as builds
 use Rattle.hierarchy_build.specs.Built.{IsFull}
+use Rattle.pcg_base.specs.States.{PlaceState, SinkState}
 use Rattle.pcg_base.specs.Told.{Files, IsLongerAt}
 use Rattle.pcg_words.specs.declared.job.RehearseJob.{RehearseJob}
 use Rattle.schedules.specs.Schedules.{schedule_of}
@@ -15,7 +16,6 @@ use Rattle.table_ingest.proofs.BaseLemmas.{base_or_fault, one_base as bases_are_
 use Rattle.call_lines.specs.declared.stops.Stop.{Stop}
 use Rattle.call_lines.specs.declared.stops.Stop.TheVariants as stops
 use Rattle.call_lines.specs.Statuses.{status_of}
-use Rattle.job_files.specs.Seen.{Seen}
 use Rattle.job_tables.specs.Inputs.{HasBase, HasSchedule, HasText, NamesClients, NamesNone, dataset_of, limit}
 use Rattle.job_tables.specs.Stops.{AllRead, InputStop, ScheduleLong, ScheduleRead}
 use Rattle.rehearsal.specs.Exact.{HasBadSchedule, HasBadTable, HasFullBase, HasLongText, IsDue}
@@ -143,10 +143,10 @@ none_due m left job h r s (inr (inl d)) = none_long m left job r d.1
 none_due m left job h r s (inr (inr d)) = not_full m job h.0 h.1 h.2 d.1
 
 -- a place that tells these files, and else what this one does
-abbrev telling : Files → Seen → Seen
+abbrev telling : Files → PlaceState → PlaceState
 telling m s = record { files = Some m; left = s.left; reads = s.reads; writes = s.writes; counts = s.counts }
 
-stop_due : (m : Files) (job : RehearseJob) (old new : Seen) (stop : Stop) → InputStop job (telling m old) new stop → (s : ℕ) → IsDue (Some m) job s → Ends (status_of stop) s
+stop_due : (m : Files) (job : RehearseJob) (old new : PlaceState) (stop : Stop) → InputStop job (telling m old) new stop → (s : ℕ) → IsDue (Some m) job s → Ends (status_of stop) s
 stop_due m job old new stops.BadWords t s d = absurd t
 stop_due m job old new (stops.ReadFault client file) t s d = inr (inl refl)
 stop_due m job old new (stops.WriteFault client file) t s d = absurd t
@@ -157,23 +157,23 @@ stop_due m job old new (stops.IdsSpent layer x y z) t s d = full_due m new.left 
 stop_due m job old new (stops.TooSmall need given) t s d = full_due m new.left job (t.1, builds.TooSmall need given, t.0) t.2 s d
 stop_due m job old new stops.NoMemory t s d = inr (inr refl)
 
-told_due : (m : Files) (job : RehearseJob) (old new : Seen) (held held' : Option (List ℕ)) (outs outs' status : ℕ) → Outcome job (telling m old) new held held' outs outs' status
+told_due : (m : Files) (job : RehearseJob) (old new : PlaceState) (out out' : SinkState) (status : ℕ) → Outcome job (telling m old) new out out' status
     → (s : ℕ) → IsDue (Some m) job s → Ends status s
-told_due m job old new held held' outs outs' status (inl h) s d = subst (λ n. Ends n s) (sym h.1) (go h.2)
+told_due m job old new out out' status (inl h) s d = subst (λ n. Ends n s) (sym h.1) (go h.2)
   where
     go : StopCause job (telling m old) new h.0 → Ends (status_of h.0) s
     go (inl t) = stop_due m job old new h.0 t.0 s d
     go (inr t) = absurd (none_due m new.left job t.0 t.1 s d)
-told_due m job old new held held' outs outs' status (inr h) s d =
+told_due m job old new out out' status (inr h) s d =
     let p = h.2 in
     absurd (none_due m new.left job (p.base, p.has_base, p.fits, p.schedule, p.has_schedule) p.read s d)
 
-pub due : (job : RehearseJob) (old new : Seen) (held held' : Option (List ℕ)) (outs outs' status : ℕ) → Outcome job old new held held' outs outs' status
+pub due : (job : RehearseJob) (old new : PlaceState) (out out' : SinkState) (status : ℕ) → Outcome job old new out out' status
     → (s : ℕ) → IsDue old.files job s → (status ≡ s) ⊎ (status ≡ 2) ⊎ (status ≡ 5)
-due job old new held held' outs outs' status o s d = go old.files refl d
+due job old new out out' status o s d = go old.files refl d
   where
     go : (files : Option Files) → old.files ≡ files → IsDue files job s → Ends status s
     go None e d = absurd d
     go (Some m) e d =
         let same : old ≡ telling m old = ap (λ (f : Option Files). record { files = f; left = old.left; reads = old.reads; writes = old.writes; counts = old.counts }) e in
-        told_due m job old new held held' outs outs' status (subst (λ x. Outcome job x new held held' outs outs' status) same o) s d
+        told_due m job old new out out' status (subst (λ x. Outcome job x new out out' status) same o) s d

@@ -5,12 +5,13 @@ use Rattle.std.specs.List.{list_any, AllByRecursion}
 use Rattle.std.specs.FinMap.{get, insert}
 use Rattle.std.proofs.lemmas.Slice.Eq.{bytes_eq-Decides}
 use Rattle.pcg_base.specs.Causes.{Rose}
+use Rattle.pcg_base.specs.States.{PlaceState, SinkState}
 use Rattle.pcg_base.specs.Told.{Files, KeepsFiles, TellsAt, TellsTo}
 use Rattle.client_answers.specs.declared.answers.ClientAnswers.{ClientAnswers}
 use Rattle.client_answers.specs.Written.{IsFresh}
 use Rattle.job_files.specs.declared.opening.OpenFault.{OpenFault}
 use Rattle.job_files.specs.declared.opening.OpenFault.TheVariants as opens
-use Rattle.job_files.specs.Seen.{IsLater, IsSame, ReadRose, Seen, WasOpened, WriteRose}
+use Rattle.job_files.specs.Places.{IsLater, IsSame, ReadRose, WasOpened, WriteRose}
 use Rattle.job_files.specs.Clients.{AnswersOpen, AnswersShut, AreEmpty, AreOpened, Empties, FrontWhole, RequestsShut, emptied}
 use Rattle.job_files.specs.Kept.{AreKeptIn, AreKeptOut, IsAt, KeepsOther}
 use Rattle.call_lines.specs.declared.stops.FileName.TheVariants as files
@@ -84,14 +85,14 @@ module _ {S : Type 0} (left : S → Option (List ℕ)) (faults : S → ℕ) wher
       (x, refl, subst (λ z. TellsAt files z (left x)) same h.0)
   each_opened files (n ∷ names) (x ∷ xs) h (suc k) name e = each_opened files names xs h.2 k name e
 
-module _ {K : Type 0} (held : K → Option (List ℕ)) (faults : K → ℕ) where
-  pub empty_behind : (a b : Option Files) (names : List (List ℕ)) (xs : List (ClientAnswers K)) → KeepsFiles a b → AreEmpty held faults b names xs → AreEmpty held faults a names xs
+module _ {K : Type 0} (state : K → SinkState) where
+  pub empty_behind : (a b : Option Files) (names : List (List ℕ)) (xs : List (ClientAnswers K)) → KeepsFiles a b → AreEmpty state b names xs → AreEmpty state a names xs
   empty_behind a b [] [] h k = tt
   empty_behind a b [] (x ∷ xs) h k = absurd k
   empty_behind a b (name ∷ names) [] h k = absurd k
-  empty_behind a b (name ∷ names) (x ∷ xs) h k = (tells_to a b (held x.sink) [] h k.0, k.1, k.2, empty_behind a b names xs h k.3)
+  empty_behind a b (name ∷ names) (x ∷ xs) h k = (tells_to a b (state x.sink).held [] h k.0, k.1, k.2, empty_behind a b names xs h k.3)
 
-  pub fresh_each : (files : Option Files) (names : List (List ℕ)) (xs : List (ClientAnswers K)) → AreEmpty held faults files names xs → AllByRecursion IsFresh xs
+  pub fresh_each : (files : Option Files) (names : List (List ℕ)) (xs : List (ClientAnswers K)) → AreEmpty state files names xs → AllByRecursion IsFresh xs
   fresh_each files [] [] k = tt
   fresh_each files [] (x ∷ xs) k = absurd k
   fresh_each files (name ∷ names) [] k = absurd k
@@ -105,7 +106,7 @@ pub rose_on : (a b c : ℕ) → Rose a b → b ≤ c → Rose a c
 rose_on a b c h k = omega (arith, h, k)
 
 -- no requests were opened: so did no session begin
-pub requests_stop : (requests answers : List (List ℕ)) (s t : Seen) (fault : OpenFault) (stop : Stop) → RequestsShut requests s t fault
+pub requests_stop : (requests answers : List (List ℕ)) (s t : PlaceState) (fault : OpenFault) (stop : Stop) → RequestsShut requests s t fault
     → ((client : ℕ) → fault ≡ opens.Failed client → stop ≡ stops.ReadFault client files.Requests) → (fault ≡ opens.NoMemory → stop ≡ stops.NoMemory) → SessionsStop requests answers s t stop
 requests_stop requests answers s t (opens.Failed client) stop h f n = subst (SessionsStop requests answers s t) (sym (f client refl)) h
 requests_stop requests answers s t opens.NoMemory stop h f n =

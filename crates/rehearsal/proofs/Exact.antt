@@ -12,6 +12,7 @@ use Rattle.hierarchy_build.specs.declared.errors.BuildError.TheVariants as build
 use Rattle.pcg_base.specs.Causes.{Rose}
 use Rattle.pcg_base.specs.declared.reading.StreamEnd.{StreamEnd}
 use Rattle.pcg_base.specs.declared.reading.StreamEnd.TheVariants as ends
+use Rattle.pcg_base.specs.States.{PlaceState, SinkState}
 use Rattle.pcg_base.specs.Told.{Files, IsLongerAt}
 use Rattle.pcg_words.specs.declared.job.RehearseJob.{RehearseJob}
 use Rattle.pcg_words.specs.Job.{answer_file, request_file}
@@ -20,7 +21,6 @@ use Rattle.call_lines.specs.declared.stops.FileName.TheVariants as files
 use Rattle.call_lines.specs.declared.stops.Stop.{Stop}
 use Rattle.call_lines.specs.declared.stops.Stop.TheVariants as stops
 use Rattle.call_lines.specs.Statuses.{status_of}
-use Rattle.job_files.specs.Seen.{Seen}
 use Rattle.job_tables.specs.Inputs.{HasText, dataset_of, limit}
 use Rattle.job_tables.specs.Stops.{InputStop, ScheduleRose, WasRead}
 use Rattle.session_results.specs.Results.{SessionResult, fault_at, fault_for, fault_of, faults_from, status_for}
@@ -54,10 +54,10 @@ unfolding at_fault
 zero_fault = refl
 
 -- a status 0 is that of sessions without a fault, behind which all was printed
-all_printed : (held held' : Option (List ℕ)) (outs outs' : ℕ) (text : List ℕ) (ended status : ℕ) → Printed held held' outs outs' text ended status → status ≡ 0
-    → Appends held held' text × (outs' ≡ outs) × (ended ≡ 0)
-all_printed held held' outs outs' text ended status (inl h) z = (h.0, h.1, sym h.2 ∙ z)
-all_printed held held' outs outs' text ended status (inr (inl h)) z = absurd (go (fault_is ended))
+all_printed : (out out' : SinkState) (text : List ℕ) (ended status : ℕ) → Printed out out' text ended status → status ≡ 0
+    → Appends out.held out'.held text × (out'.faults ≡ out.faults) × (ended ≡ 0)
+all_printed out out' text ended status (inl h) z = (h.0, h.1, sym h.2 ∙ z)
+all_printed out out' text ended status (inr (inl h)) z = absurd (go (fault_is ended))
   where
     go : ((ended ≡ 0) × (at_fault ended ≡ 4)) ⊎ (at_fault ended ≡ ended) → ⊥
     go (inl f) = omega (arith, f.1, h.2, z)
@@ -65,12 +65,12 @@ all_printed held held' outs outs' text ended status (inr (inl h)) z = absurd (go
         let e : ended ≡ 0 = sym f ∙ sym h.2 ∙ z in
         let four : at_fault ended ≡ 4 = subst (λ n. at_fault n ≡ 4) (sym e) zero_fault in
         omega (arith, four, h.2, z)
-all_printed held held' outs outs' text ended status (inr (inr h)) z = absurd (omega (arith, h.2, z))
+all_printed out out' text ended status (inr (inr h)) z = absurd (omega (arith, h.2, z))
 
-pub is_done : (job : RehearseJob) (old new : Seen) (held held' : Option (List ℕ)) (outs outs' status : ℕ) → Outcome job old new held held' outs outs' status → status ≡ 0 → IsDone job old new held held'
-is_done job old new held held' outs outs' status (inl h) z = absurd (never_zero h.0 (sym h.1 ∙ z))
-is_done job old new held held' outs outs' status (inr h) z =
-    let p = all_printed held held' outs outs' h.0 h.1 status h.3 z in
+pub is_done : (job : RehearseJob) (old new : PlaceState) (out out' : SinkState) (status : ℕ) → Outcome job old new out out' status → status ≡ 0 → IsDone job old new out out'
+is_done job old new out out' status (inl h) z = absurd (never_zero h.0 (sym h.1 ∙ z))
+is_done job old new out out' status (inr h) z =
+    let p = all_printed out out' h.0 h.1 status h.3 z in
     (h.0, subst (λ n. CamePast job old new h.0 n) p.2 h.2, p.0)
 
 -- one session without a fault, ahead of others
@@ -91,22 +91,22 @@ all_well client (r ∷ rs) e =
     let more = all_well (client + 1) rs one.2 in
     ((one.0, more.0), (one.1, more.1))
 
-pub is_faultless : (job : RehearseJob) (old new : Seen) (held held' : Option (List ℕ)) (outs outs' status : ℕ) → Outcome job old new held held' outs outs' status → status ≡ 0
-    → (new.reads ≡ old.reads) × (new.writes ≡ old.writes) × (outs' ≡ outs)
-is_faultless job old new held held' outs outs' status (inl h) z = absurd (never_zero h.0 (sym h.1 ∙ z))
-is_faultless job old new held held' outs outs' status (inr h) z =
-    let p = all_printed held held' outs outs' h.0 h.1 status h.3 z in
+pub is_faultless : (job : RehearseJob) (old new : PlaceState) (out out' : SinkState) (status : ℕ) → Outcome job old new out out' status → status ≡ 0
+    → (new.reads ≡ old.reads) × (new.writes ≡ old.writes) × (out'.faults ≡ out.faults)
+is_faultless job old new out out' status (inl h) z = absurd (never_zero h.0 (sym h.1 ∙ z))
+is_faultless job old new out out' status (inr h) z =
+    let p = all_printed out out' h.0 h.1 status h.3 z in
     let past = h.2 in
     let well = all_well 1 past.results (sym past.history.status ∙ p.2) in
     (past.history.reads well.0, past.history.writes well.1, p.1)
 
 -- What the status of sessions tells.
-abbrev Ended : Option Files → List (List ℕ) → Seen → Seen → ℕ → Type 0
+abbrev Ended : Option Files → List (List ℕ) → PlaceState → PlaceState → ℕ → Type 0
 Ended m stems old new status =
     (status ≡ 0) ⊎ ((status ≡ 2) × Rose old.reads new.reads) ⊎ ((status ≡ 4) × Rose old.writes new.writes)
     ⊎ ((status ≡ 7) × (k : ℕ) × (name : List ℕ) × (slice_get (map request_file stems) k ≡ Some name) × IsLongerAt m name limit)
 
-one_more : (m : Option Files) (stem : List ℕ) (stems : List (List ℕ)) (old new : Seen) (status : ℕ) → Ended m stems old new status → Ended m (stem ∷ stems) old new status
+one_more : (m : Option Files) (stem : List ℕ) (stems : List (List ℕ)) (old new : PlaceState) (status : ℕ) → Ended m stems old new status → Ended m (stem ∷ stems) old new status
 one_more m stem stems old new status (inl h) = inl h
 one_more m stem stems old new status (inr (inl h)) = inr (inl h)
 one_more m stem stems old new status (inr (inr (inl h))) = inr (inr (inl h))
@@ -120,7 +120,7 @@ longer (Some m) left name taken t more =
     (taken ++ left name, t, omega (arith, count, more))
 
 -- what the fault of one client tells, or that of those behind it
-one_ended : (client : ℕ) (stem : List ℕ) (stems : List (List ℕ)) (old new : Seen) (ending : StreamEnd) (last : Option Reply) (taken : List ℕ) (lines : List (List ℕ)) (rs : List SessionResult)
+one_ended : (client : ℕ) (stem : List ℕ) (stems : List (List ℕ)) (old new : PlaceState) (ending : StreamEnd) (last : Option Reply) (taken : List ℕ) (lines : List (List ℕ)) (rs : List SessionResult)
     → TakenAt old.files new.left (request_file stem) taken → LinesAre ending taken lines → ReadsSo ending (request_file stem) old new → WritesSo (is_some last) (answer_file stem) old new
     → Ended old.files stems old new (status_for (faults_from (client + 1) rs))
     → Ended old.files (stem ∷ stems) old new (status_for (fault_at client (fault_for (is_some last) ending) ++ faults_from (client + 1) rs))
@@ -130,7 +130,7 @@ one_ended client stem stems old new ends.Broken None taken lines rs t l r w more
 one_ended client stem stems old new ends.TooLong None taken lines rs t l r w more = inr (inr (inr (refl, 0, request_file stem, refl, longer old.files new.left (request_file stem) taken t l.1)))
 one_ended client stem stems old new ending (Some reply) taken lines rs t l r w more = inr (inr (inl (refl, w.place)))
 
-all_ended : (d : Dataset) (b : Base) (log : List Entry) (old new : Seen) (client : ℕ) (stems : List (List ℕ)) (rs : List SessionResult) → AllClients d b log old new client stems rs
+all_ended : (d : Dataset) (b : Base) (log : List Entry) (old new : PlaceState) (client : ℕ) (stems : List (List ℕ)) (rs : List SessionResult) → AllClients d b log old new client stems rs
     → Ended old.files stems old new (status_for (faults_from client rs))
 unfolding status_for faults_from fault_of
 all_ended d b log old new client [] [] h = inl refl
@@ -140,26 +140,26 @@ all_ended d b log old new client (stem ∷ stems) (r ∷ rs) h =
     let c = h.0 in
     one_ended client stem stems old new r.ending r.last c.taken r.lines rs c.stream c.lines c.reads c.writes (all_ended d b log old new (client + 1) stems rs h.1)
 
-past_ended : (job : RehearseJob) (old new : Seen) (text : List ℕ) (ended : ℕ) → CamePast job old new text ended → Ended old.files job.stems old new ended
+past_ended : (job : RehearseJob) (old new : PlaceState) (text : List ℕ) (ended : ℕ) → CamePast job old new text ended → Ended old.files job.stems old new ended
 past_ended job old new text ended p =
     subst (λ n. Ended old.files job.stems old new n) (sym p.history.status) (all_ended (dataset_of job) p.base p.log old new 1 job.stems p.results p.history.clients)
 
 -- what sessions tell is told by the call that answers their status
-ended_tells : (job : RehearseJob) (old new : Seen) (outs outs' ended status : ℕ) → status ≡ ended → Ended old.files job.stems old new ended → Tells job old new outs outs' status
-ended_tells job old new outs outs' ended status e (inl h) = inl (e ∙ h)
-ended_tells job old new outs outs' ended status e (inr (inl h)) = inr (inr (inl (e ∙ h.0, h.1)))
-ended_tells job old new outs outs' ended status e (inr (inr (inl h))) = inr (inr (inr (inr (inl (e ∙ h.0, inl h.1)))))
-ended_tells job old new outs outs' ended status e (inr (inr (inr h))) = inr (inr (inr (inr (inr (inr (e ∙ h.0, inr (h.1, h.2, h.3, h.4)))))))
+ended_tells : (job : RehearseJob) (old new : PlaceState) (out out' : SinkState) (ended status : ℕ) → status ≡ ended → Ended old.files job.stems old new ended → Tells job old new out out' status
+ended_tells job old new out out' ended status e (inl h) = inl (e ∙ h)
+ended_tells job old new out out' ended status e (inr (inl h)) = inr (inr (inl (e ∙ h.0, h.1)))
+ended_tells job old new out out' ended status e (inr (inr (inl h))) = inr (inr (inr (inr (inl (e ∙ h.0, inl h.1)))))
+ended_tells job old new out out' ended status e (inr (inr (inr h))) = inr (inr (inr (inr (inr (inr (e ∙ h.0, inr (h.1, h.2, h.3, h.4)))))))
 
-past_tells : (job : RehearseJob) (old new : Seen) (held held' : Option (List ℕ)) (outs outs' : ℕ) (text : List ℕ) (ended status : ℕ) → CamePast job old new text ended → Printed held held' outs outs' text ended status
-    → Tells job old new outs outs' status
-past_tells job old new held held' outs outs' text ended status p (inl h) = ended_tells job old new outs outs' ended status h.2 (past_ended job old new text ended p)
-past_tells job old new held held' outs outs' text ended status p (inr (inl h)) = go (fault_is ended)
+past_tells : (job : RehearseJob) (old new : PlaceState) (out out' : SinkState) (text : List ℕ) (ended status : ℕ) → CamePast job old new text ended → Printed out out' text ended status
+    → Tells job old new out out' status
+past_tells job old new out out' text ended status p (inl h) = ended_tells job old new out out' ended status h.2 (past_ended job old new text ended p)
+past_tells job old new out out' text ended status p (inr (inl h)) = go (fault_is ended)
   where
-    go : ((ended ≡ 0) × (at_fault ended ≡ 4)) ⊎ (at_fault ended ≡ ended) → Tells job old new outs outs' status
+    go : ((ended ≡ 0) × (at_fault ended ≡ 4)) ⊎ (at_fault ended ≡ ended) → Tells job old new out out' status
     go (inl f) = inr (inr (inr (inr (inl (h.2 ∙ f.1, inr h.1)))))
-    go (inr f) = ended_tells job old new outs outs' ended status (h.2 ∙ f) (past_ended job old new text ended p)
-past_tells job old new held held' outs outs' text ended status p (inr (inr h)) = inr (inl h.2)
+    go (inr f) = ended_tells job old new out out' ended status (h.2 ∙ f) (past_ended job old new text ended p)
+past_tells job old new out out' text ended status p (inr (inr h)) = inr (inl h.2)
 
 -- a text that was read, at a place that tells its bytes or not
 text_of : (m : Option Files) (left : List ℕ → List ℕ) (name : List ℕ) → WasRead m left name → (bytes : List ℕ) × HasText m name bytes
@@ -167,7 +167,7 @@ text_of None left name r = ([], tt)
 text_of (Some m) left name r = (r.1, r.2)
 
 -- a stop for a text that is too long
-pub long_stop : (job : RehearseJob) (old new : Seen) (client : ℕ) (file : FileName) → InputStop job old new (stops.TooLong client file) → HasLongText old.files job
+pub long_stop : (job : RehearseJob) (old new : PlaceState) (client : ℕ) (file : FileName) → InputStop job old new (stops.TooLong client file) → HasLongText old.files job
 long_stop job old new client files.Supervoxels t = inl t.1
 long_stop job old new client files.Edges t =
     let x = text_of old.files new.left job.supervoxels t.2 in
@@ -180,7 +180,7 @@ long_stop job old new client files.Requests t = absurd t
 long_stop job old new client files.Answers t = absurd t
 
 -- and for one whose reading failed
-read_stop : (job : RehearseJob) (old new : Seen) (client : ℕ) (file : FileName) → InputStop job old new (stops.ReadFault client file) → Rose old.reads new.reads
+read_stop : (job : RehearseJob) (old new : PlaceState) (client : ℕ) (file : FileName) → InputStop job old new (stops.ReadFault client file) → Rose old.reads new.reads
 read_stop job old new client files.Supervoxels t = t.1.place
 read_stop job old new client files.Edges t = t.1.place
 read_stop job old new client files.Schedule t = go job.schedule t.1
@@ -191,53 +191,53 @@ read_stop job old new client files.Schedule t = go job.schedule t.1
 read_stop job old new client files.Requests t = absurd t
 read_stop job old new client files.Answers t = absurd t
 
-input_tells : (job : RehearseJob) (old new : Seen) (outs outs' : ℕ) (stop : Stop) → InputStop job old new stop → Tells job old new outs outs' (status_of stop)
-input_tells job old new outs outs' stops.BadWords t = absurd t
-input_tells job old new outs outs' (stops.ReadFault client file) t = inr (inr (inl (refl, read_stop job old new client file t)))
-input_tells job old new outs outs' (stops.WriteFault client file) t = absurd t
-input_tells job old new outs outs' (stops.TooLong client file) t = inr (inr (inr (inr (inr (inr (refl, inl (long_stop job old new client file t)))))))
-input_tells job old new outs outs' (stops.BadTable table row cause) t = inr (inr (inr (inl (refl, inl (table, row, cause, t.0)))))
-input_tells job old new outs outs' (stops.BadSchedule word) t = inr (inr (inr (inl (refl, inr (t.1, word, t.0)))))
-input_tells job old new outs outs' (stops.IdsSpent layer x y z) t = inr (inr (inr (inr (inr (inl (refl, (t.1, builds.IdsSpent layer x y z, t.0)))))))
-input_tells job old new outs outs' (stops.TooSmall need given) t = inr (inr (inr (inr (inr (inl (refl, (t.1, builds.TooSmall need given, t.0)))))))
-input_tells job old new outs outs' stops.NoMemory t = inr (inl refl)
+input_tells : (job : RehearseJob) (old new : PlaceState) (out out' : SinkState) (stop : Stop) → InputStop job old new stop → Tells job old new out out' (status_of stop)
+input_tells job old new out out' stops.BadWords t = absurd t
+input_tells job old new out out' (stops.ReadFault client file) t = inr (inr (inl (refl, read_stop job old new client file t)))
+input_tells job old new out out' (stops.WriteFault client file) t = absurd t
+input_tells job old new out out' (stops.TooLong client file) t = inr (inr (inr (inr (inr (inr (refl, inl (long_stop job old new client file t)))))))
+input_tells job old new out out' (stops.BadTable table row cause) t = inr (inr (inr (inl (refl, inl (table, row, cause, t.0)))))
+input_tells job old new out out' (stops.BadSchedule word) t = inr (inr (inr (inl (refl, inr (t.1, word, t.0)))))
+input_tells job old new out out' (stops.IdsSpent layer x y z) t = inr (inr (inr (inr (inr (inl (refl, (t.1, builds.IdsSpent layer x y z, t.0)))))))
+input_tells job old new out out' (stops.TooSmall need given) t = inr (inr (inr (inr (inr (inl (refl, (t.1, builds.TooSmall need given, t.0)))))))
+input_tells job old new out out' stops.NoMemory t = inr (inl refl)
 
-clients_tell : (job : RehearseJob) (old new : Seen) (outs outs' : ℕ) (stop : Stop) → ClientsStop job old new stop → Tells job old new outs outs' (status_of stop)
-clients_tell job old new outs outs' stops.BadWords t = absurd t
-clients_tell job old new outs outs' (stops.ReadFault client files.Requests) t = inr (inr (inl (refl, t.3.place)))
-clients_tell job old new outs outs' (stops.ReadFault client files.Supervoxels) t = absurd t
-clients_tell job old new outs outs' (stops.ReadFault client files.Edges) t = absurd t
-clients_tell job old new outs outs' (stops.ReadFault client files.Schedule) t = absurd t
-clients_tell job old new outs outs' (stops.ReadFault client files.Answers) t = absurd t
-clients_tell job old new outs outs' (stops.WriteFault client files.Answers) t = inr (inr (inr (inr (inl (refl, inl t.3.place)))))
-clients_tell job old new outs outs' (stops.WriteFault client files.Supervoxels) t = absurd t
-clients_tell job old new outs outs' (stops.WriteFault client files.Edges) t = absurd t
-clients_tell job old new outs outs' (stops.WriteFault client files.Schedule) t = absurd t
-clients_tell job old new outs outs' (stops.WriteFault client files.Requests) t = absurd t
-clients_tell job old new outs outs' (stops.TooLong client file) t = absurd t
-clients_tell job old new outs outs' (stops.BadTable table row cause) t = absurd t
-clients_tell job old new outs outs' (stops.BadSchedule word) t = absurd t
-clients_tell job old new outs outs' (stops.IdsSpent layer x y z) t = absurd t
-clients_tell job old new outs outs' (stops.TooSmall need given) t = absurd t
-clients_tell job old new outs outs' stops.NoMemory t = inr (inl refl)
+clients_tell : (job : RehearseJob) (old new : PlaceState) (out out' : SinkState) (stop : Stop) → ClientsStop job old new stop → Tells job old new out out' (status_of stop)
+clients_tell job old new out out' stops.BadWords t = absurd t
+clients_tell job old new out out' (stops.ReadFault client files.Requests) t = inr (inr (inl (refl, t.3.place)))
+clients_tell job old new out out' (stops.ReadFault client files.Supervoxels) t = absurd t
+clients_tell job old new out out' (stops.ReadFault client files.Edges) t = absurd t
+clients_tell job old new out out' (stops.ReadFault client files.Schedule) t = absurd t
+clients_tell job old new out out' (stops.ReadFault client files.Answers) t = absurd t
+clients_tell job old new out out' (stops.WriteFault client files.Answers) t = inr (inr (inr (inr (inl (refl, inl t.3.place)))))
+clients_tell job old new out out' (stops.WriteFault client files.Supervoxels) t = absurd t
+clients_tell job old new out out' (stops.WriteFault client files.Edges) t = absurd t
+clients_tell job old new out out' (stops.WriteFault client files.Schedule) t = absurd t
+clients_tell job old new out out' (stops.WriteFault client files.Requests) t = absurd t
+clients_tell job old new out out' (stops.TooLong client file) t = absurd t
+clients_tell job old new out out' (stops.BadTable table row cause) t = absurd t
+clients_tell job old new out out' (stops.BadSchedule word) t = absurd t
+clients_tell job old new out out' (stops.IdsSpent layer x y z) t = absurd t
+clients_tell job old new out out' (stops.TooSmall need given) t = absurd t
+clients_tell job old new out out' stops.NoMemory t = inr (inl refl)
 
-pub tells : (job : RehearseJob) (old new : Seen) (held held' : Option (List ℕ)) (outs outs' status : ℕ) → Outcome job old new held held' outs outs' status → Tells job old new outs outs' status
-tells job old new held held' outs outs' status (inl h) = subst (λ n. Tells job old new outs outs' n) (sym h.1) (go h.2)
+pub tells : (job : RehearseJob) (old new : PlaceState) (out out' : SinkState) (status : ℕ) → Outcome job old new out out' status → Tells job old new out out' status
+tells job old new out out' status (inl h) = subst (λ n. Tells job old new out out' n) (sym h.1) (go h.2)
   where
-    go : StopCause job old new h.0 → Tells job old new outs outs' (status_of h.0)
-    go (inl t) = input_tells job old new outs outs' h.0 t.0
-    go (inr t) = clients_tell job old new outs outs' h.0 t.2
-tells job old new held held' outs outs' status (inr h) = past_tells job old new held held' outs outs' h.0 h.1 status h.2 h.3
+    go : StopCause job old new h.0 → Tells job old new out out' (status_of h.0)
+    go (inl t) = input_tells job old new out out' h.0 t.0
+    go (inr t) = clients_tell job old new out out' h.0 t.2
+tells job old new out out' status (inr h) = past_tells job old new out out' h.0 h.1 status h.2 h.3
 
-pub complete : (job : RehearseJob) (old new : Seen) (held held' : Option (List ℕ)) (outs outs' status : ℕ) → Outcome job old new held held' outs outs' status → IsQuiet old new outs outs' → IsFine old.files job
+pub complete : (job : RehearseJob) (old new : PlaceState) (out out' : SinkState) (status : ℕ) → Outcome job old new out out' status → IsQuiet old new out out' → IsFine old.files job
     → (status ≡ 0) ⊎ (status ≡ 5)
-complete job old new held held' outs outs' status o quiet fine = go (tells job old new held held' outs outs' status o)
+complete job old new out out' status o quiet fine = go (tells job old new out out' status o)
   where
     no_table : HasBadTable old.files job ⊎ HasBadSchedule old.files job → ⊥
     no_table (inl x) = fine.tables x
     no_table (inr x) = fine.schedule x
 
-    no_write : Rose old.writes new.writes ⊎ Rose outs outs' → ⊥
+    no_write : Rose old.writes new.writes ⊎ Rose out.faults out'.faults → ⊥
     no_write (inl x) = quiet.1 x
     no_write (inr x) = quiet.2 x
 
@@ -245,7 +245,7 @@ complete job old new held held' outs outs' status o quiet fine = go (tells job o
     none_long (inl x) = fine.texts x
     none_long (inr x) = fine.streams x
 
-    go : Tells job old new outs outs' status → (status ≡ 0) ⊎ (status ≡ 5)
+    go : Tells job old new out out' status → (status ≡ 0) ⊎ (status ≡ 5)
     go (inl x) = inl x
     go (inr (inl x)) = inr x
     go (inr (inr (inl x))) = absurd (quiet.0 x.1)

@@ -3,10 +3,11 @@ use Rattle.std.proofs.Common.{◌≡◌, ◌≢◌, ℕ, Bool, true, false, ◌|
 use Rattle.std.specs.List.{list_any}
 use Rattle.std.proofs.lemmas.Bool.{false≢true}
 use Rattle.std.proofs.lemmas.Slice.Eq.{bytes_eq-Decides}
+use Rattle.pcg_base.specs.States.{PlaceState}
 use Rattle.pcg_base.specs.Told.{Files}
 use Rattle.pcg_words.specs.declared.job.RehearseJob.{RehearseJob}
 use Rattle.pcg_words.specs.Job.{IsRehearse, request_file}
-use Rattle.job_files.specs.Seen.{EachStep, KeepsIn, Seen}
+use Rattle.job_files.specs.Places.{EachStep, KeepsIn}
 use Rattle.job_tables.specs.Stops.{AllRead, ScheduleRead, WasRead}
 use Rattle.rehearsal.proofs.Apart.{edges_apart, schedule_apart, supervoxels_apart}
 
@@ -21,8 +22,8 @@ or_right false y e = e
 differs : (xs ys : List ℕ) → bytes_eq xs ys ≡ false → xs ≡ ys → ⊥
 differs xs ys e same = absurd (cc ((bytes_eq-Decides xs ys).1 same))
 
-pub left_elsewhere : (names : List (List ℕ)) (xs : List (Option (List ℕ) × ℕ)) (s t : Seen) → EachStep KeepsIn names xs s t → (name : List ℕ) → list_any (bytes_eq name) names ≡ false → t.left name ≡ s.left name
-left_elsewhere names [] s t h name e = ap (λ (x : Seen). x.left name) h
+pub left_elsewhere : (names : List (List ℕ)) (xs : List (Option (List ℕ) × ℕ)) (s t : PlaceState) → EachStep KeepsIn names xs s t → (name : List ℕ) → list_any (bytes_eq name) names ≡ false → t.left name ≡ s.left name
+left_elsewhere names [] s t h name e = ap (λ (x : PlaceState). x.left name) h
 left_elsewhere [] (x ∷ xs) s t h name e = absurd h
 left_elsewhere (n ∷ names) (x ∷ xs) s t h name e =
     left_elsewhere names xs h.0 t h.2 name (or_right (bytes_eq name n) _ e) ∙ h.1.only_left name (differs name n (or_left (bytes_eq name n) _ e))

@@ -11,11 +11,12 @@ use Rattle.request_lines.specs.Texts.{text_of_reply}
 use Rattle.pcg_base.specs.Causes.{Rose, added}
 use Rattle.pcg_base.specs.declared.reading.StreamEnd.{StreamEnd}
 use Rattle.pcg_base.specs.declared.reading.StreamEnd.TheVariants as ends
+use Rattle.pcg_base.specs.States.{PlaceState}
 use Rattle.pcg_base.specs.Told.{Files, KeepsFiles, LeavesNone, TellsAt, TellsTo}
 use Rattle.pcg_words.specs.Job.{answer_file, request_file}
 use Rattle.client_answers.specs.Written.{FaultsSo, HasTexts, texts}
 use Rattle.stream_lines.specs.Streams.{EndsIn, EndsTold}
-use Rattle.job_files.specs.Seen.{ReadBroke, Seen, WriteBroke}
+use Rattle.job_files.specs.Places.{ReadBroke, WriteBroke}
 use Rattle.job_files.specs.Clients.{Empties, emptied}
 use Rattle.job_files.specs.Kept.{AreKeptIn, AreKeptOut, IsAt, IsKeptIn, IsKeptOut}
 use Rattle.session_results.specs.Results.{IsSession, SessionResult, Streams}
@@ -70,7 +71,7 @@ added_none c f now e l z = omega (arith, e, l, z)
 added_some : (c f now : ℕ) → now ≡ added c f → 1 ≤ f → Rose c now
 added_some c f now e p = omega (arith, e, p)
 
-reads_so : (ending : StreamEnd) (taken name : List ℕ) (lines : List (List ℕ)) (left left' : Option (List ℕ)) (f : ℕ) (old new : Seen) → EndsIn ending taken lines left left' 0 f
+reads_so : (ending : StreamEnd) (taken name : List ℕ) (lines : List (List ℕ)) (left left' : Option (List ℕ)) (f : ℕ) (old new : PlaceState) → EndsIn ending taken lines left left' 0 f
     → (new.counts name).source_faults ≡ added (old.counts name).source_faults f → (old.counts name).source_faults ≤ (new.counts name).source_faults → (1 ≤ f → Rose old.reads new.reads)
     → ReadsSo ending name old new
 reads_so ends.Whole taken name lines left left' f old new h e l r = added_none _ f _ e l h.2
@@ -79,7 +80,7 @@ reads_so ends.Broken taken name lines left left' f old new h e l r =
     record { place = r p; here = added_some _ f _ e p }
 reads_so ends.TooLong taken name lines left left' f old new h e l r = added_none _ f _ e l h.2
 
-writes_so : (failed : Bool) (name : List ℕ) (f : ℕ) (old new : Seen) → FaultsSo 0 f failed
+writes_so : (failed : Bool) (name : List ℕ) (f : ℕ) (old new : PlaceState) → FaultsSo 0 f failed
     → (new.counts name).sink_faults ≡ added (old.counts name).sink_faults f → (old.counts name).sink_faults ≤ (new.counts name).sink_faults → (1 ≤ f → Rose old.writes new.writes)
     → WritesSo failed name old new
 writes_so false name f old new h e l r = added_none _ f _ e l h
@@ -98,27 +99,27 @@ unfailed None f h e = h
 unfailed (Some r) f h e = cc
 
 -- from the call's start on answers were opened, and no count rose
-pub record IsOpen (answers : List (List ℕ)) (a b : Seen) : Type 0 where
+pub record IsOpen (answers : List (List ℕ)) (a b : PlaceState) : Type 0 where
   pub files : Empties a.files answers b.files
   pub reads : b.reads ≡ a.reads
   pub writes : b.writes ≡ a.writes
   pub counts : (name : List ℕ) → b.counts name ≡ a.counts name
 
 -- the states of a place: answers were opened, requests kept back, and answers kept back
-pub record IsKept (requests answers : List (List ℕ)) (sources sinks : List (Option (List ℕ) × ℕ)) (a b c d : Seen) : Type 0 where
+pub record IsKept (requests answers : List (List ℕ)) (sources sinks : List (Option (List ℕ) × ℕ)) (a b c d : PlaceState) : Type 0 where
   pub opened : IsOpen answers a b
   pub kept_in : AreKeptIn requests sources b c
   pub kept_out : AreKeptOut answers sinks c d
 
 -- what the files are told by
-pub told_mid : (requests answers : List (List ℕ)) (sources sinks : List (Option (List ℕ) × ℕ)) (a b c d : Seen) → IsKept requests answers sources sinks a b c d → Empties a.files answers c.files
+pub told_mid : (requests answers : List (List ℕ)) (sources sinks : List (Option (List ℕ) × ℕ)) (a b c d : PlaceState) → IsKept requests answers sources sinks a b c d → Empties a.files answers c.files
 told_mid requests answers sources sinks a b c d k = go a.files b.files k.opened.files k.kept_in.files
   where
     go : (f g : Option Files) → Empties f answers g → KeepsFiles g c.files → Empties f answers c.files
     go None g e h = tt
     go (Some m) g e h = subst (λ x. KeepsFiles x c.files) e h
 
-module _ (d : Dataset) (b : Base) (log : List Entry) (requests answers : List (List ℕ)) (sources sinks : List (Option (List ℕ) × ℕ)) (s t u v : Seen) (k : IsKept requests answers sources sinks s t u v) where
+module _ (d : Dataset) (b : Base) (log : List Entry) (requests answers : List (List ℕ)) (sources sinks : List (Option (List ℕ) × ℕ)) (s t u v : PlaceState) (k : IsKept requests answers sources sinks s t u v) where
   pub one_client : (client : ℕ) (stem : List ℕ) (x : Streams) (r : SessionResult) → TellsAt s.files (request_file stem) x.left → x.read_faults ≡ 0 → TellsTo s.files x.held [] → x.write_faults ≡ 0
       → IsKeptIn (request_file stem) (x.left', x.read_faults') t u → IsKeptOut (answer_file stem) (x.held', x.write_faults') u v
       → IsSession d b log client x r → IsClient d b log s v client stem r

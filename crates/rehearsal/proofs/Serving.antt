@@ -6,6 +6,7 @@ use Rattle.op_model.specs.declared.base.Dataset.{Dataset}
 use Rattle.op_model.specs.declared.base.Base.{Base}
 use Rattle.op_model.specs.declared.entry.Entry.{Entry}
 use Rattle.pcg_base.specs.declared.clock.Ticks.{Ticks}
+use Rattle.pcg_base.specs.States.{PlaceState, SinkState}
 use Rattle.pcg_base.specs.Told.{TellsAt, TellsTo}
 use Rattle.pcg_words.specs.Job.{answer_file, request_file}
 use Rattle.record_rows.specs.Readings.{Image}
@@ -14,7 +15,6 @@ use Rattle.client_answers.specs.declared.answers.ClientAnswers.{ClientAnswers}
 use Rattle.client_answers.specs.Written.{FaultsSo}
 use Rattle.stream_lines.specs.declared.reading.StreamLines.{StreamLines}
 use Rattle.stream_lines.specs.Streams.{EndsIn}
-use Rattle.job_files.specs.Seen.{Seen}
 use Rattle.job_files.specs.Clients.{AreEmpty, AreOpened, AreRead, kept_of}
 use Rattle.job_files.specs.Kept.{IsKeptIn, IsKeptOut}
 use Rattle.job_tables.specs.Inputs.{clock_time}
@@ -57,19 +57,19 @@ module _ {S : Type 0} (left : S → Option (List ℕ)) (faults : S → ℕ) wher
   opened_count files (name ∷ names) [] h = absurd h
   opened_count files (name ∷ names) (x ∷ xs) h = ap suc (opened_count files names xs h.2)
 
-module _ {K : Type 0} (held : K → Option (List ℕ)) (faults : K → ℕ) where
-  pub empty_count : (files : _) (names : List (List ℕ)) (xs : List (ClientAnswers K)) → AreEmpty held faults files names xs → length xs ≡ length names
+module _ {K : Type 0} (state : K → SinkState) where
+  pub empty_count : (files : _) (names : List (List ℕ)) (xs : List (ClientAnswers K)) → AreEmpty state files names xs → length xs ≡ length names
   empty_count files [] [] h = refl
   empty_count files [] (x ∷ xs) h = absurd h
   empty_count files (name ∷ names) [] h = absurd h
   empty_count files (name ∷ names) (x ∷ xs) h = ap suc (empty_count files names xs h.3)
 
-module _ {S K : Type 0} (left : S → Option (List ℕ)) (faults : S → ℕ) (held : K → Option (List ℕ)) (out_faults : K → ℕ) (d : Dataset) (b : Base) (log : List Entry)
-    (requests answers : List (List ℕ)) (in_kept out_kept : List (Option (List ℕ) × ℕ)) (s t u v : Seen) (kept : IsKept requests answers in_kept out_kept s t u v) where
+module _ {S K : Type 0} (left : S → Option (List ℕ)) (faults : S → ℕ) (state : K → SinkState) (d : Dataset) (b : Base) (log : List Entry)
+    (requests answers : List (List ℕ)) (in_kept out_kept : List (Option (List ℕ) × ℕ)) (s t u v : PlaceState) (kept : IsKept requests answers in_kept out_kept s t u v) where
   all_clients : (client : ℕ) (stems : List (List ℕ)) (xs : List S) (is : List (Option (List ℕ) × ℕ)) (ks ms : List (ClientAnswers K)) (rs : List SessionResult)
-      → AreOpened left faults s.files (map request_file stems) xs → AreEmpty held out_faults s.files (map answer_file stems) ks
-      → ZipAll (λ name x. IsKeptIn name x t u) (map request_file stems) is → ZipAll (λ name x. IsKeptOut name x u v) (map answer_file stems) (map (kept_of held out_faults) ms)
-      → AllSessions d b log client (streams_of held out_faults (sources_of (map left xs) is) ks ms) rs → AllClients d b log s v client stems rs
+      → AreOpened left faults s.files (map request_file stems) xs → AreEmpty state s.files (map answer_file stems) ks
+      → ZipAll (λ name x. IsKeptIn name x t u) (map request_file stems) is → ZipAll (λ name x. IsKeptOut name x u v) (map answer_file stems) (map (kept_of state) ms)
+      → AllSessions d b log client (streams_of state (sources_of (map left xs) is) ks ms) rs → AllClients d b log s v client stems rs
   unfolding sources_of streams_of
   all_clients client [] [] [] [] [] [] o e zi zo h = tt
   all_clients client [] [] [] [] [] (r ∷ rs) o e zi zo h = absurd h
@@ -90,7 +90,7 @@ module _ {S K : Type 0} (left : S → Option (List ℕ)) (faults : S → ℕ) (h
   -- sources of streams that weren't broken never failed
   none_broke : (client : ℕ) (lefts : List (Option (List ℕ))) (is : List (Option (List ℕ) × ℕ)) (ks ms : List (ClientAnswers K)) (rs : List SessionResult)
       → length is ≡ length lefts → length ks ≡ length lefts → length ms ≡ length lefts
-      → AllSessions d b log client (streams_of held out_faults (sources_of lefts is) ks ms) rs → AllByRecursion (λ r. broke r.ending ≡ false) rs → AllByRecursion (λ x. x.1 ≡ 0) is
+      → AllSessions d b log client (streams_of state (sources_of lefts is) ks ms) rs → AllByRecursion (λ r. broke r.ending ≡ false) rs → AllByRecursion (λ x. x.1 ≡ 0) is
   unfolding sources_of streams_of
   none_broke client lefts [] ks ms rs a f g h q = tt
   none_broke client [] (i ∷ is) ks ms rs a f g h q = absurd (omega (arith, a))
@@ -102,8 +102,8 @@ module _ {S K : Type 0} (left : S → Option (List ℕ)) (faults : S → ℕ) (h
 
   -- sinks whose writing never failed never did
   none_failed : (client : ℕ) (names : List (List ℕ)) (lefts : List (Option (List ℕ))) (is : List (Option (List ℕ) × ℕ)) (ks ms : List (ClientAnswers K)) (rs : List SessionResult)
-      → length is ≡ length lefts → length lefts ≡ length names → AreEmpty held out_faults s.files names ks → length ms ≡ length names
-      → AllSessions d b log client (streams_of held out_faults (sources_of lefts is) ks ms) rs → AllByRecursion (λ r. r.last ≡ None) rs → AllByRecursion (λ x. x.1 ≡ 0) (map (kept_of held out_faults) ms)
+      → length is ≡ length lefts → length lefts ≡ length names → AreEmpty state s.files names ks → length ms ≡ length names
+      → AllSessions d b log client (streams_of state (sources_of lefts is) ks ms) rs → AllByRecursion (λ r. r.last ≡ None) rs → AllByRecursion (λ x. x.1 ≡ 0) (map (kept_of state) ms)
   unfolding sources_of streams_of
   none_failed client names lefts is ks [] rs a f e g h q = tt
   none_failed client [] lefts is ks (m ∷ ms) rs a f e g h q = absurd (omega (arith, g))
@@ -112,28 +112,28 @@ module _ {S K : Type 0} (left : S → Option (List ℕ)) (faults : S → ℕ) (h
   none_failed client (n ∷ names) (l ∷ lefts) (i ∷ is) [] (m ∷ ms) rs a f e g h q = absurd e
   none_failed client (n ∷ names) (l ∷ lefts) (i ∷ is) (k ∷ ks) (m ∷ ms) [] a f e g h q = absurd h
   none_failed client (n ∷ names) (l ∷ lefts) (i ∷ is) (k ∷ ks) (m ∷ ms) (r ∷ rs) a f e g h q = (
-    unfailed r.last (out_faults m.sink) (subst (λ z. FaultsSo z (out_faults m.sink) (is_some r.last)) e.1 h.0.broke) q.0,
+    unfailed r.last (state m.sink).faults (subst (λ z. FaultsSo z (state m.sink).faults (is_some r.last)) e.1 h.0.broke) q.0,
     none_failed (client + 1) names lefts is ks ms rs (omega (arith, a)) (omega (arith, f)) e.3 (omega (arith, g)) h.1 q.1,
   )
 
   pub served : (stems : List (List ℕ)) (xs : List S) (read : List StreamLines) (ks ms : List (ClientAnswers K)) (clock : Ticks) (schedule : List ℕ) (done : SessionsDone)
-      → requests ≡ map request_file stems → answers ≡ map answer_file stems → out_kept ≡ map (kept_of held out_faults) ms
-      → AreOpened left faults s.files (map request_file stems) xs → AreEmpty held out_faults s.files (map answer_file stems) ks → AreRead (map left xs) in_kept read → length ms ≡ length ks
-      → (q : AreDone held out_faults d b (clock_time clock 0) clock schedule (sources_of (map left xs) in_kept) ks ms done) → log ≡ q.log → AreServed d b clock schedule stems s v done
+      → requests ≡ map request_file stems → answers ≡ map answer_file stems → out_kept ≡ map (kept_of state) ms
+      → AreOpened left faults s.files (map request_file stems) xs → AreEmpty state s.files (map answer_file stems) ks → AreRead (map left xs) in_kept read → length ms ≡ length ks
+      → (q : AreDone state d b (clock_time clock 0) clock schedule (sources_of (map left xs) in_kept) ks ms done) → log ≡ q.log → AreServed d b clock schedule stems s v done
   served stems xs read ks ms clock schedule done er ea eo o e rd count q same =
       let requests_are = length_map request_file stems in
       let answers_are = length_map answer_file stems in
       let n_xs = opened_count left faults s.files (map request_file stems) xs o in
-      let n_ks = empty_count held out_faults s.files (map answer_file stems) ks e in
+      let n_ks = empty_count state s.files (map answer_file stems) ks e in
       let n_left = length_map left xs in
       let n_kept = read_count (map left xs) in_kept read rd in
       let n_sources = sources_count (map left xs) in_kept n_kept in
-      let n_out = length_map (kept_of held out_faults) ms in
-      let sessions : AllSessions d b log 1 (streams_of held out_faults (sources_of (map left xs) in_kept) ks ms) q.results =
-      subst (λ l. AllSessions d b l 1 (streams_of held out_faults (sources_of (map left xs) in_kept) ks ms) q.results) (sym same) q.sessions in
+      let n_out = length_map (kept_of state) ms in
+      let sessions : AllSessions d b log 1 (streams_of state (sources_of (map left xs) in_kept) ks ms) q.results =
+      subst (λ l. AllSessions d b l 1 (streams_of state (sources_of (map left xs) in_kept) ks ms) q.results) (sym same) q.sessions in
       let zi = zip_each (λ name x. IsKeptIn name x t u) (map request_file stems) in_kept (omega (arith, requests_are, n_xs, n_left, n_kept))
       (λ k name x i j. kept.kept_in.each k name x (ap (λ l. slice_get l k) er ∙ i) j) in
-      let zo = zip_each (λ name x. IsKeptOut name x u v) (map answer_file stems) (map (kept_of held out_faults) ms) (omega (arith, answers_are, n_ks, n_out, count))
+      let zo = zip_each (λ name x. IsKeptOut name x u v) (map answer_file stems) (map (kept_of state) ms) (omega (arith, answers_are, n_ks, n_out, count))
       (λ k name x i j. kept.kept_out.each k name x (ap (λ l. slice_get l k) ea ∙ i) (ap (λ l. slice_get l k) eo ∙ j)) in
       let stay = λ (z : AllByRecursion (λ x. x.1 ≡ 0) in_kept). kept.kept_out.reads ∙ kept.kept_in.still z ∙ kept.opened.reads in
       let stand = λ (z : AllByRecursion (λ x. x.1 ≡ 0) out_kept). kept.kept_out.still z ∙ kept.kept_in.writes ∙ kept.opened.writes in

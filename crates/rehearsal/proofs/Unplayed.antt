@@ -6,11 +6,12 @@ use Rattle.std.specs.FinMap.{get, insert}
 use Rattle.std.proofs.lemmas.Option.{same_Some}
 use Rattle.std.proofs.lemmas.Slice.Eq.{bytes_eq-Decides}
 use Rattle.pcg_base.specs.Causes.{Rose}
+use Rattle.pcg_base.specs.States.{PlaceState, SinkState}
 use Rattle.pcg_base.specs.Told.{Files, KeepsFiles, TellsAt, TellsTo}
 use Rattle.client_answers.specs.declared.answers.ClientAnswers.{ClientAnswers}
 use Rattle.job_files.specs.declared.opening.OpenFault.{OpenFault}
 use Rattle.job_files.specs.declared.opening.OpenFault.TheVariants as opens
-use Rattle.job_files.specs.Seen.{IsSame, Seen, WasOpened, WriteRose}
+use Rattle.job_files.specs.Places.{IsSame, WasOpened, WriteRose}
 use Rattle.job_files.specs.Clients.{AnswersShut, AreEmpty, AreOpened, Empties, FrontWhole, emptied, kept_of}
 use Rattle.job_files.specs.Kept.{AreKeptIn, AreKeptOut, IsAt, KeepsOther}
 use Rattle.job_files.proofs.Emptying.{put_here, put_elsewhere}
@@ -39,7 +40,7 @@ emptied_same None b names some h = tt
 emptied_same (Some m) b names some h = subst (AreEmptyOrSame names (Some m)) (sym h) (λ k name e. emptied_or_same m some name)
 
 -- the sources were kept back whole
-whole_front : {S : Type 0} (left : S → Option (List ℕ)) (faults : S → ℕ) (requests : List (List ℕ)) (sources : List S) (a b c : Seen) (told : Option Files) → AreOpened left faults a.files requests sources
+whole_front : {S : Type 0} (left : S → Option (List ℕ)) (faults : S → ℕ) (requests : List (List ℕ)) (sources : List S) (a b c : PlaceState) (told : Option Files) → AreOpened left faults a.files requests sources
     → (told ≡ a.files) → ((m : Files) → told ≡ Some m → (m' : Files) × (b.files ≡ Some m')) → AreKeptIn requests (map (λ x. (left x, faults x)) sources) b c → FrontWhole (length requests) requests told c.left
 whole_front left faults requests sources a b c None opened same on kept k name below e = tt
 whole_front left faults requests sources a b c (Some m) opened same on kept k name below e =
@@ -56,7 +57,7 @@ fewer_names answers n (Some m) None k = absurd k
 fewer_names answers n (Some m) (Some m') k = λ name e. k name (any_take (bytes_eq name) n answers e)
 
 -- no answers were opened: so did no session begin
-pub answers_stop : {S : Type 0} (left : S → Option (List ℕ)) (faults : S → ℕ) (requests answers : List (List ℕ)) (sources : List S) (s t u v : Seen) (fault : OpenFault) (stop : Stop)
+pub answers_stop : {S : Type 0} (left : S → Option (List ℕ)) (faults : S → ℕ) (requests answers : List (List ℕ)) (sources : List S) (s t u v : PlaceState) (fault : OpenFault) (stop : Stop)
     → IsSame s t → AreOpened left faults s.files requests sources → AnswersShut answers t u fault → AreKeptIn requests (map (λ x. (left x, faults x)) sources) u v
     → ((files files' : Option Files) (names : List (List ℕ)) → Empties files names files' → KeepsOther files names files')
     → ((client : ℕ) → fault ≡ opens.Failed client → stop ≡ stops.WriteFault client files.Answers) → (fault ≡ opens.NoMemory → stop ≡ stops.NoMemory) → SessionsStop requests answers s v stop
@@ -81,7 +82,7 @@ answers_stop left faults requests answers sources s t u v opens.NoMemory stop sa
     subst (SessionsStop requests answers s v) (sym (n refl)) (emptied_same s.files v.files answers (take h.0 answers) empties, fewer_names answers h.0 s.files v.files (law s.files v.files (take h.0 answers) empties))
 
 -- whatever stopped it, other files stay
-pub stop_others : ((files files' : Option Files) (names : List (List ℕ)) → Empties files names files' → KeepsOther files names files') → (requests answers : List (List ℕ)) (s t : Seen) (stop : Stop)
+pub stop_others : ((files files' : Option Files) (names : List (List ℕ)) → Empties files names files' → KeepsOther files names files') → (requests answers : List (List ℕ)) (s t : PlaceState) (stop : Stop)
     → SessionsStop requests answers s t stop → KeepsOther s.files answers t.files
 stop_others law requests answers s t (stops.ReadFault client files.Requests) h = other_kept s.files t.files answers h.4
 stop_others law requests answers s t (stops.ReadFault client files.Supervoxels) h = absurd h
@@ -102,14 +103,14 @@ stop_others law requests answers s t (stops.IdsSpent layer x y z) h = absurd h
 stop_others law requests answers s t (stops.TooSmall need given) h = absurd h
 
 -- answers that weren't opened leave all sources as they were
-pub shut_left : (answers : List (List ℕ)) (s t : Seen) (fault : OpenFault) → AnswersShut answers s t fault → (n : List ℕ) → t.left n ≡ s.left n
+pub shut_left : (answers : List (List ℕ)) (s t : PlaceState) (fault : OpenFault) → AnswersShut answers s t fault → (n : List ℕ) → t.left n ≡ s.left n
 shut_left answers s t (opens.Failed client) h = h.6
 shut_left answers s t opens.NoMemory h = h.4
 
-module _ {K : Type 0} (held : K → Option (List ℕ)) (faults : K → ℕ) where
+module _ {K : Type 0} (state : K → SinkState) where
   -- an empty sink at each of these names
-  each_empty : (files : Option Files) (names : List (List ℕ)) (xs : List (ClientAnswers K)) → AreEmpty held faults files names xs → (k : ℕ) (name : List ℕ) → slice_get names k ≡ Some name
-      → (x : ClientAnswers K) × (slice_get {X = Option (List ℕ) × ℕ} (map (kept_of held faults) xs) k ≡ Some (kept_of held faults x)) × TellsTo files (held x.sink) []
+  each_empty : (files : Option Files) (names : List (List ℕ)) (xs : List (ClientAnswers K)) → AreEmpty state files names xs → (k : ℕ) (name : List ℕ) → slice_get names k ≡ Some name
+      → (x : ClientAnswers K) × (slice_get {X = Option (List ℕ) × ℕ} (map (kept_of state) xs) k ≡ Some (kept_of state x)) × TellsTo files (state x.sink).held []
   each_empty files [] [] h k name e = cc
   each_empty files [] (x ∷ xs) h k name e = absurd h
   each_empty files (n ∷ names) [] h k name e = absurd h
@@ -117,8 +118,8 @@ module _ {K : Type 0} (held : K → Option (List ℕ)) (faults : K → ℕ) wher
   each_empty files (n ∷ names) (x ∷ xs) h (suc k) name e = each_empty files names xs h.3 k name e
 
   -- all was kept back, the answers as they were opened
-  pub unplayed_stop : (requests answers : List (List ℕ)) (in_kept : List (Option (List ℕ) × ℕ)) (sinks : List (ClientAnswers K)) (s t u v : Seen) → IsOpen answers s t → AreEmpty held faults s.files answers sinks
-      → AreKeptIn requests in_kept t u → AreKeptOut answers (map (kept_of held faults) sinks) u v
+  pub unplayed_stop : (requests answers : List (List ℕ)) (in_kept : List (Option (List ℕ) × ℕ)) (sinks : List (ClientAnswers K)) (s t u v : PlaceState) → IsOpen answers s t → AreEmpty state s.files answers sinks
+      → AreKeptIn requests in_kept t u → AreKeptOut answers (map (kept_of state) sinks) u v
       → ((files files' : Option Files) (names : List (List ℕ)) → Empties files names files' → KeepsOther files names files') → SessionsStop requests answers s v stops.NoMemory
   unplayed_stop requests answers in_kept sinks s t u v opened empty kin kout law =
       let mid : Empties s.files answers u.files = empties_kept s.files t.files u.files answers opened.files kin.files in
@@ -131,8 +132,8 @@ module _ {K : Type 0} (held : K → Option (List ℕ)) (faults : K → ℕ) wher
           file : (k : ℕ) (name : List ℕ) → slice_get answers k ≡ Some name → IsAt (Some (emptied m answers)) v.files name (Some [])
           file k name q =
               let one = each_empty s.files answers sinks empty k name q in
-              let told : held one.0.sink ≡ Some [] = subst (λ x. TellsTo x (held one.0.sink) []) e one.2 in
-              let kept = (kout.each k name (kept_of held faults one.0) q one.1).file in
+              let told : (state one.0.sink).held ≡ Some [] = subst (λ x. TellsTo x (state one.0.sink).held []) e one.2 in
+              let kept = (kout.each k name (kept_of state one.0) q one.1).file in
               subst (λ x. IsAt x v.files name (Some [])) h (subst (IsAt u.files v.files name) told kept)
 
           at : (g : Option Files) → KeepsOther (Some (emptied m answers)) answers g → ((k : ℕ) (name : List ℕ) → slice_get answers k ≡ Some name → IsAt (Some (emptied m answers)) g name (Some [])) → AreEmptyOrSame answers (Some m) g

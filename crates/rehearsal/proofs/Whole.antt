@@ -5,11 +5,12 @@ use Rattle.std.specs.List.{AllByRecursion, list_any}
 use Rattle.op_model.specs.declared.base.Dataset.{Dataset}
 use Rattle.op_model.specs.declared.base.Base.{Base}
 use Rattle.pcg_base.specs.declared.clock.Ticks.{Ticks}
+use Rattle.pcg_base.specs.States.{PlaceState, SinkState}
 use Rattle.pcg_base.specs.Told.{Files, KeepsFiles}
 use Rattle.pcg_words.specs.declared.job.RehearseJob.{RehearseJob}
 use Rattle.pcg_words.specs.Job.{all_differ, answer_file, request_file}
 use Rattle.client_answers.specs.declared.answers.ClientAnswers.{ClientAnswers}
-use Rattle.job_files.specs.Seen.{EachStep, IsLater, IsSame, KeepsIn, KeepsOut, Seen}
+use Rattle.job_files.specs.Places.{EachStep, IsLater, IsSame, KeepsIn, KeepsOut}
 use Rattle.stream_lines.specs.declared.reading.StreamLines.{StreamLines}
 use Rattle.job_files.specs.Clients.{AnswersOpen, AreEmpty, AreOpened, Empties, ReadsAll, ReadsSome, kept_of}
 use Rattle.job_files.specs.Kept.{AreKeptIn, AreKeptOut, KeepsOther}
@@ -30,15 +31,15 @@ use Rattle.rehearsal.proofs.Zips.{length_map}
 
 -- the laws of files that are kept back
 abbrev pub SourcesKept : Type 0
-SourcesKept = (names : List (List ℕ)) (sources : List (Option (List ℕ) × ℕ)) (old new : Seen) → IsTrue (all_differ names) → EachStep KeepsIn names sources old new → AreKeptIn names sources old new
+SourcesKept = (names : List (List ℕ)) (sources : List (Option (List ℕ) × ℕ)) (old new : PlaceState) → IsTrue (all_differ names) → EachStep KeepsIn names sources old new → AreKeptIn names sources old new
 
 abbrev pub SinksKept : Type 0
-SinksKept = (names : List (List ℕ)) (sinks : List (Option (List ℕ) × ℕ)) (old new : Seen) → IsTrue (all_differ names) → EachStep KeepsOut names sinks old new → AreKeptOut names sinks old new
+SinksKept = (names : List (List ℕ)) (sinks : List (Option (List ℕ) × ℕ)) (old new : PlaceState) → IsTrue (all_differ names) → EachStep KeepsOut names sinks old new → AreKeptOut names sinks old new
 
 abbrev pub AnswersEmptied : Type 0
 AnswersEmptied = (files files' : Option Files) (names : List (List ℕ)) → Empties files names files' → KeepsOther files names files'
 
-open_from : (answers : List (List ℕ)) (o s t : Seen) → IsBefore o s → AnswersOpen answers s t → IsOpen answers o t
+open_from : (answers : List (List ℕ)) (o s t : PlaceState) → IsBefore o s → AnswersOpen answers s t → IsOpen answers o t
 open_from answers o s t b h = record {
   files = empties_behind o.files s.files t.files answers b.files h.files;
   reads = h.reads ∙ b.reads;
@@ -50,26 +51,26 @@ keeps : (f : Option Files) → KeepsFiles f f
 keeps None = tt
 keeps (Some m) = refl
 
-before_same : (s : Seen) → IsBefore s s
+before_same : (s : PlaceState) → IsBefore s s
 before_same s = record { files = keeps s.files; reads = refl; writes = refl; counts = λ name. refl }
 
 module _ (inlaw : SourcesKept) (outlaw : SinksKept) (emptied : AnswersEmptied) (requests answers : List (List ℕ)) (rd : IsTrue (all_differ requests)) (ad : IsTrue (all_differ answers)) where
-  module _ {S K : Type 0} (left : S → Option (List ℕ)) (faults : S → ℕ) (held : K → Option (List ℕ)) (out_faults : K → ℕ) (d : Dataset) (b : Base) (clock : Ticks) (schedule : List ℕ) (stems : List (List ℕ))
-      (sources : List S) (sinks : List (ClientAnswers K)) (o s t v : Seen) (done : SessionsDone) (h : AnswersOpen answers s t) (p : ArePlayed left held out_faults d b (clock_time clock 0) clock schedule requests answers sources sinks t v done) where
-    pub whole_served : IsBefore o s → requests ≡ map request_file stems → answers ≡ map answer_file stems → AreOpened left faults s.files requests sources → AreEmpty held out_faults s.files answers sinks
+  module _ {S K : Type 0} (left : S → Option (List ℕ)) (faults : S → ℕ) (state : K → SinkState) (d : Dataset) (b : Base) (clock : Ticks) (schedule : List ℕ) (stems : List (List ℕ))
+      (sources : List S) (sinks : List (ClientAnswers K)) (o s t v : PlaceState) (done : SessionsDone) (h : AnswersOpen answers s t) (p : ArePlayed left state d b (clock_time clock 0) clock schedule requests answers sources sinks t v done) where
+    pub whole_served : IsBefore o s → requests ≡ map request_file stems → answers ≡ map answer_file stems → AreOpened left faults s.files requests sources → AreEmpty state s.files answers sinks
         → AreServed d b clock schedule stems o v done
     whole_served before er ea opened empty =
-        let kept : IsKept requests answers p.kept (map (kept_of held out_faults) p.ended) o t p.mid v = record {
+        let kept : IsKept requests answers p.kept (map (kept_of state) p.ended) o t p.mid v = record {
           opened = open_from answers o s t before h;
           kept_in = inlaw requests p.kept t p.mid rd p.kept_in;
-          kept_out = outlaw answers (map (kept_of held out_faults) p.ended) p.mid v ad p.kept_out;
+          kept_out = outlaw answers (map (kept_of state) p.ended) p.mid v ad p.kept_out;
         } in
-        served left faults held out_faults d b p.done_so.log requests answers p.kept (map (kept_of held out_faults) p.ended) o t p.mid v kept stems sources p.read sinks p.ended clock schedule done er ea refl
+        served left faults state d b p.done_so.log requests answers p.kept (map (kept_of state) p.ended) o t p.mid v kept stems sources p.read sinks p.ended clock schedule done er ea refl
         (subst (λ names. AreOpened left faults o.files names sources) er (opened_behind left faults o.files s.files requests sources before.files opened))
-        (subst (λ names. AreEmpty held out_faults o.files names sinks) ea (empty_behind held out_faults o.files s.files answers sinks before.files empty))
+        (subst (λ names. AreEmpty state o.files names sinks) ea (empty_behind state o.files s.files answers sinks before.files empty))
         p.are_read p.count p.done_so refl
 
-  module _ (in_kept out_kept : List (Option (List ℕ) × ℕ)) (s t u v : Seen) (h : AnswersOpen answers s t) (kin : EachStep KeepsIn requests in_kept t u) (kout : EachStep KeepsOut answers out_kept u v) where
+  module _ (in_kept out_kept : List (Option (List ℕ) × ℕ)) (s t u v : PlaceState) (h : AnswersOpen answers s t) (kin : EachStep KeepsIn requests in_kept t u) (kout : EachStep KeepsOut answers out_kept u v) where
     pub back_later : IsLater s t → IsLater s v
     back_later l = later_then s u v (later_then s t u l (inlaw requests in_kept t u rd kin).later) (outlaw answers out_kept u v ad kout).later
 
@@ -80,11 +81,11 @@ module _ (inlaw : SourcesKept) (outlaw : SinksKept) (emptied : AnswersEmptied) (
     pub back_left : (n : List ℕ) → list_any (bytes_eq n) requests ≡ false → v.left n ≡ s.left n
     back_left n e = (outlaw answers out_kept u v ad kout).left n ∙ left_elsewhere requests in_kept t u kin n e ∙ h.left n
 
-  module _ {K : Type 0} (held : K → Option (List ℕ)) (out_faults : K → ℕ) (sinks : List (ClientAnswers K)) (s t v : Seen) (h : AnswersOpen answers s t) (p : AreUnplayed held out_faults requests answers sinks t v) where
-    pub whole_unplayed : AreEmpty held out_faults s.files answers sinks → SessionsStop requests answers s v stops.NoMemory
+  module _ {K : Type 0} (state : K → SinkState) (sinks : List (ClientAnswers K)) (s t v : PlaceState) (h : AnswersOpen answers s t) (p : AreUnplayed state requests answers sinks t v) where
+    pub whole_unplayed : AreEmpty state s.files answers sinks → SessionsStop requests answers s v stops.NoMemory
     whole_unplayed empty =
-        unplayed_stop held out_faults requests answers p.kept sinks s t p.mid v (open_from answers s s t (before_same s) h) empty
-        (inlaw requests p.kept t p.mid rd p.kept_in) (outlaw answers (map (kept_of held out_faults) sinks) p.mid v ad p.kept_out) emptied
+        unplayed_stop state requests answers p.kept sinks s t p.mid v (open_from answers s s t (before_same s) h) empty
+        (inlaw requests p.kept t p.mid rd p.kept_in) (outlaw answers (map (kept_of state) sinks) p.mid v ad p.kept_out) emptied
 
 pub if_some_then : {A : Type 0} {P Q : A → Type 0} (o : Option A) → ((x : A) → P x → Q x) → IfSome o P → IfSome o Q
 if_some_then None f h = tt
@@ -113,27 +114,27 @@ if_none_then None f h = f h
 if_none_then (Some x) f h = tt
 
 -- all was kept back where memory ran out over the lines, or behind them
-module _ {S K : Type 0} (left : S → Option (List ℕ)) (held : K → Option (List ℕ)) (faults : K → ℕ) (requests answers rs ns : List (List ℕ)) (sources : List S) where
-  pub unplayed : (sinks ended : List (ClientAnswers K)) (s t u : Seen) → rs ≡ requests → ns ≡ answers → ended ≡ sinks → ReadsSome left rs sources s t → EachStep KeepsOut ns (map (kept_of held faults) ended) t u
-      → AreUnplayed held faults requests answers sinks s u
+module _ {S K : Type 0} (left : S → Option (List ℕ)) (state : K → SinkState) (requests answers rs ns : List (List ℕ)) (sources : List S) where
+  pub unplayed : (sinks ended : List (ClientAnswers K)) (s t u : PlaceState) → rs ≡ requests → ns ≡ answers → ended ≡ sinks → ReadsSome left rs sources s t → EachStep KeepsOut ns (map (kept_of state) ended) t u
+      → AreUnplayed state requests answers sinks s u
   unplayed sinks ended s t u er en es read kept = record {
     kept = read.0;
     mid = t;
     kept_in = subst (λ names. EachStep KeepsIn names read.0 s t) er read.2;
-    kept_out = subst (λ xs. EachStep KeepsOut answers (map (kept_of held faults) xs) t u) es (subst (λ names. EachStep KeepsOut names (map (kept_of held faults) ended) t u) en kept);
+    kept_out = subst (λ xs. EachStep KeepsOut answers (map (kept_of state) xs) t u) es (subst (λ names. EachStep KeepsOut names (map (kept_of state) ended) t u) en kept);
   }
 
-  pub unread : (read : List StreamLines) (sinks ended : List (ClientAnswers K)) (s t u : Seen) → rs ≡ requests → ns ≡ answers → ended ≡ sinks → ReadsAll left rs sources read s t → EachStep KeepsOut ns (map (kept_of held faults) ended) t u
-      → AreUnplayed held faults requests answers sinks s u
+  pub unread : (read : List StreamLines) (sinks ended : List (ClientAnswers K)) (s t u : PlaceState) → rs ≡ requests → ns ≡ answers → ended ≡ sinks → ReadsAll left rs sources read s t → EachStep KeepsOut ns (map (kept_of state) ended) t u
+      → AreUnplayed state requests answers sinks s u
   unread read sinks ended s t u er en es all kept = record {
     kept = all.0;
     mid = t;
     kept_in = subst (λ names. EachStep KeepsIn names all.0 s t) er all.2;
-    kept_out = subst (λ xs. EachStep KeepsOut answers (map (kept_of held faults) xs) t u) es (subst (λ names. EachStep KeepsOut names (map (kept_of held faults) ended) t u) en kept);
+    kept_out = subst (λ xs. EachStep KeepsOut answers (map (kept_of state) xs) t u) es (subst (λ names. EachStep KeepsOut names (map (kept_of state) ended) t u) en kept);
   }
 
 -- answers that are opened behind requests
-pub answers_behind : (answers ns : List (List ℕ)) (s t u : Seen) → ns ≡ answers → IsSame s t → AnswersOpen ns t u → AnswersOpen answers s u
+pub answers_behind : (answers ns : List (List ℕ)) (s t u : PlaceState) → ns ≡ answers → IsSame s t → AnswersOpen ns t u → AnswersOpen answers s u
 answers_behind answers ns s t u e same h = record {
   files = subst (λ names. Empties s.files names u.files) e (empties_behind s.files t.files u.files ns same.files h.files);
   left = λ name. h.left name ∙ same.left name;
@@ -143,5 +144,5 @@ answers_behind answers ns s t u e same h = record {
 }
 
 -- nothing was opened
-pub unopened : (requests answers : List (List ℕ)) (s : Seen) → SessionsStop requests answers s s stops.NoMemory
+pub unopened : (requests answers : List (List ℕ)) (s : PlaceState) → SessionsStop requests answers s s stops.NoMemory
 unopened requests answers s = (same_keeps s.files s.files answers (keeps s.files), other_kept s.files s.files answers (keeps s.files))

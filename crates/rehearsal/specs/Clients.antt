@@ -8,13 +8,14 @@ use Rattle.op_model.specs.declared.reply.Reply.{Reply}
 use Rattle.op_model.specs.Transcript.{WholeTranscript}
 use Rattle.pcg_base.specs.declared.reading.StreamEnd.{StreamEnd}
 use Rattle.pcg_base.specs.declared.reading.StreamEnd.TheVariants as ends
+use Rattle.pcg_base.specs.States.{PlaceState}
 use Rattle.pcg_base.specs.Told.{Files, LeavesNone}
 use Rattle.pcg_words.specs.Job.{answer_file, request_file}
 use Rattle.request_lines.specs.Lines.{lines_of}
 use Rattle.request_lines.specs.Texts.{text_of_reply}
 use Rattle.client_session.specs.Giving.{ended_of}
 use Rattle.client_answers.specs.Written.{texts}
-use Rattle.job_files.specs.Seen.{ReadBroke, Seen, WriteBroke}
+use Rattle.job_files.specs.Places.{ReadBroke, WriteBroke}
 use Rattle.session_results.specs.Results.{SessionResult, line_asked}
 
 -- where a place tells its bytes, the file at this name begins with the bytes that were taken, and its source has the rest left
@@ -40,13 +41,13 @@ HasAnswers (Some m) None name written last = ⊥
 HasAnswers (Some m) (Some m') name written last = (answers : List ℕ) × (get m' name ≡ Some answers) × AreTexts answers written last
 
 -- if a read of a stream failed the counts of reading rose, at the place and beside its name, and else that beside the name stood still
-abbrev pub ReadsSo : StreamEnd → List ℕ → Seen → Seen → Type 0
+abbrev pub ReadsSo : StreamEnd → List ℕ → PlaceState → PlaceState → Type 0
 ReadsSo ends.Broken name old new = ReadBroke old new name
 ReadsSo ends.Whole name old new = (new.counts name).source_faults ≡ (old.counts name).source_faults
 ReadsSo ends.TooLong name old new = (new.counts name).source_faults ≡ (old.counts name).source_faults
 
 -- the same of the writing of answers
-abbrev pub WritesSo : Bool → List ℕ → Seen → Seen → Type 0
+abbrev pub WritesSo : Bool → List ℕ → PlaceState → PlaceState → Type 0
 WritesSo true name old new = WriteBroke old new name
 WritesSo false name old new = (new.counts name).sink_faults ≡ (old.counts name).sink_faults
 
@@ -56,7 +57,7 @@ broke ends.Whole = false
 broke ends.Broken = true
 broke ends.TooLong = false
 
-module _ (d : Dataset) (b : Base) (log : List Entry) (old new : Seen) where
+module _ (d : Dataset) (b : Base) (log : List Entry) (old new : PlaceState) where
   -- A client's session: its lines are those of what was taken of its requests, its replies a transcript of them over the history, and its answer file has their texts. Where no writing failed each line has its reply. Counts tell what failed.
   pub record IsClient (client : ℕ) (stem : List ℕ) (r : SessionResult) : Type 0 where
     pub taken : List ℕ

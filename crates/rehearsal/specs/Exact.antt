@@ -3,11 +3,11 @@ use Rattle.std.specs.Prelude.{◌≡◌, ◌⊎◌, ℕ, List, slice_get, Option
 use Rattle.op_model.specs.declared.base.Base.{Base}
 use Rattle.hierarchy_build.specs.declared.errors.BuildError.{BuildError}
 use Rattle.pcg_base.specs.Causes.{Rose}
+use Rattle.pcg_base.specs.States.{PlaceState}
 use Rattle.pcg_base.specs.Told.{Files, IsLongerAt}
 use Rattle.pcg_words.specs.declared.job.RehearseJob.{RehearseJob}
 use Rattle.table_ingest.specs.declared.errors.Table.{Table}
 use Rattle.table_ingest.specs.declared.errors.Cause.{Cause}
-use Rattle.job_files.specs.Seen.{Seen}
 use Rattle.job_tables.specs.Inputs.{HasBadWord, HasBase, HasFault, HasSchedule, HasText, IsFullSo, limit}
 use Rattle.job_tables.specs.Stops.{ScheduleLong}
 use Rattle.rehearsal.specs.Outcomes.{requests_of}
@@ -43,18 +43,18 @@ IsDue (Some m) job status =
     ⊎ ((status ≡ 6) × HasFullBase (Some m) job)
 
 -- What a status that isn't 0 or 5 tells.
-abbrev pub Tells : RehearseJob → Seen → Seen → ℕ → ℕ → ℕ → Type 0
-Tells job old new outs outs' status =
+abbrev pub Tells : RehearseJob → PlaceState → PlaceState → SinkState → SinkState → ℕ → Type 0
+Tells job old new out out' status =
     (status ≡ 0) ⊎ (status ≡ 5)
     ⊎ ((status ≡ 2) × Rose old.reads new.reads)
     ⊎ ((status ≡ 3) × (HasBadTable old.files job ⊎ HasBadSchedule old.files job))
-    ⊎ ((status ≡ 4) × (Rose old.writes new.writes ⊎ Rose outs outs'))
+    ⊎ ((status ≡ 4) × (Rose old.writes new.writes ⊎ Rose out.faults out'.faults))
     ⊎ ((status ≡ 6) × HasFullBase old.files job)
     ⊎ ((status ≡ 7) × (HasLongText old.files job ⊎ HasLongStream old.files job))
 
 -- no count rose
-abbrev pub IsQuiet : Seen → Seen → ℕ → ℕ → Type 0
-IsQuiet old new outs outs' = (¬ (Rose old.reads new.reads)) × (¬ (Rose old.writes new.writes)) × (¬ (Rose outs outs'))
+abbrev pub IsQuiet : PlaceState → PlaceState → SinkState → SinkState → Type 0
+IsQuiet old new out out' = (¬ (Rose old.reads new.reads)) × (¬ (Rose old.writes new.writes)) × (¬ (Rose out.faults out'.faults))
 
 -- the input is of its form: tables, schedule and streams within their limits, and numbers and records enough
 pub record IsFine (m : Option Files) (job : RehearseJob) : Type 0 where

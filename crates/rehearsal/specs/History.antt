@@ -1,6 +1,7 @@
 -- The history behind what was answered and printed.
 use Rattle.std.specs.Prelude.{◌≡◌, ℕ, ◌-◌, false, List, ◌++◌, length, None}
 use Rattle.std.specs.List.{AllByRecursion}
+use Rattle.pcg_base.specs.States.{PlaceState}
 use Rattle.op_model.specs.declared.base.Dataset.{Dataset}
 use Rattle.op_model.specs.declared.base.Base.{Base}
 use Rattle.op_model.specs.declared.entry.Entry.{Entry}
@@ -12,14 +13,13 @@ use Rattle.histories.specs.Histories.{EntriesOwned, IdsStay, LeavesAreJoined, Ro
 use Rattle.log_lines.specs.LogTexts.{log_text}
 use Rattle.client_answers.specs.Plays.{IsPlay}
 use Rattle.call_lines.specs.Texts.{summary_line}
-use Rattle.job_files.specs.Seen.{Seen}
 use Rattle.job_tables.specs.Inputs.{clock_time}
 use Rattle.session_results.specs.Results.{Replied, SessionResult, clients_of, faults_from, refusal_count, reply_count, status_for}
 use Rattle.rehearsal.specs.Clients.{AllClients, broke}
 
 module _ (d : Dataset) (b : Base) (log : List Entry) (results : List SessionResult) where
   -- One legal history stands behind all that was answered and printed: each of its entries is of one of the clients, each client's replies are a transcript over it, roots and leaves are components at each published time, and what is printed are its lines and the summary.
-  pub record History (old new : Seen) (stems : List (List ℕ)) (text : List ℕ) (ended : ℕ) : Type 0 where
+  pub record History (old new : PlaceState) (stems : List (List ℕ)) (text : List ℕ) (ended : ℕ) : Type 0 where
     pub legal : Legal d b log
     pub owned : EntriesOwned (length stems) log
     pub clients : AllClients d b log old new 1 stems results

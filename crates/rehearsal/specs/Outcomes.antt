@@ -7,6 +7,7 @@ use Rattle.op_model.specs.declared.entry.Entry.{Entry}
 use Rattle.hierarchy_build.specs.declared.errors.BuildError.{BuildError}
 use Rattle.hierarchy_build.specs.Built.{IsFull}
 use Rattle.pcg_base.specs.Causes.{Rose}
+use Rattle.pcg_base.specs.States.{PlaceState, SinkState}
 use Rattle.pcg_base.specs.Told.{AppendsFront, Files, KeepsFiles}
 use Rattle.pcg_words.specs.declared.job.RehearseJob.{RehearseJob}
 use Rattle.pcg_words.specs.Job.{answer_file, request_file}
@@ -19,7 +20,7 @@ use Rattle.call_lines.specs.Texts.{stop_text}
 use Rattle.job_files.specs.declared.opening.OpenFault.TheVariants as opens
 use Rattle.job_files.specs.Clients.{Empties, FrontWhole, RequestsShut}
 use Rattle.job_files.specs.Kept.{KeepsOther}
-use Rattle.job_files.specs.Seen.{Seen, WriteRose}
+use Rattle.job_files.specs.Places.{WriteRose}
 use Rattle.job_tables.specs.Inputs.{HasBase, HasSchedule, dataset_of}
 use Rattle.job_tables.specs.Stops.{AllRead, InputStop}
 use Rattle.session_results.specs.Results.{SessionResult}
@@ -38,7 +39,7 @@ HasInput files job =
     (b : Base) × HasBase files job b × ((e : BuildError) → IsFull (dataset_of job) b e → ⊥) × (numbers : List ℕ) × HasSchedule files job numbers
 
 -- The answers of this client couldn't be opened: those before them are empty files, and all requests were kept back whole.
-abbrev pub AnswersFailed : List (List ℕ) → List (List ℕ) → Seen → Seen → ℕ → Type 0
+abbrev pub AnswersFailed : List (List ℕ) → List (List ℕ) → PlaceState → PlaceState → ℕ → Type 0
 AnswersFailed requests answers old new client =
     (name : List ℕ) × (slice_get answers (pred client) ≡ Some name) × (1 ≤ client) × WriteRose old new name × Empties old.files (take (pred client) answers) new.files
     × (new.reads ≡ old.reads) × FrontWhole (length requests) requests old.files new.left
@@ -50,23 +51,23 @@ AreEmptyOrSame names (Some m) None = ⊥
 AreEmptyOrSame names (Some m) (Some m') = (k : ℕ) (name : List ℕ) → slice_get names k ≡ Some name → (get m' name ≡ Some []) ⊎ (get m' name ≡ get m name)
 
 -- Why the sessions over these requests and answers didn't begin, and what the files are then: requests are opened before answers, and both before a request is read. Where memory ran out no answer file has a byte that it hadn't.
-abbrev pub SessionsStop : List (List ℕ) → List (List ℕ) → Seen → Seen → Stop → Type 0
+abbrev pub SessionsStop : List (List ℕ) → List (List ℕ) → PlaceState → PlaceState → Stop → Type 0
 SessionsStop requests answers old new (stops.ReadFault client files.Requests) = RequestsShut requests old new (opens.Failed client)
 SessionsStop requests answers old new (stops.WriteFault client files.Answers) = AnswersFailed requests answers old new client
 SessionsStop requests answers old new stops.NoMemory = AreEmptyOrSame answers old.files new.files × KeepsOther old.files answers new.files
 SessionsStop requests answers old new stop = ⊥
 
-abbrev pub ClientsStop : RehearseJob → Seen → Seen → Stop → Type 0
+abbrev pub ClientsStop : RehearseJob → PlaceState → PlaceState → Stop → Type 0
 ClientsStop job old new stop = SessionsStop (requests_of job) (answers_of job) old new stop
 
 -- Why a call stopped before its sessions, and what the files are then. The first step that failed decides: a client's files are opened only after the tables and the schedule were read and spelled their input, and until then no file changes.
-abbrev pub StopCause : RehearseJob → Seen → Seen → Stop → Type 0
+abbrev pub StopCause : RehearseJob → PlaceState → PlaceState → Stop → Type 0
 StopCause job old new stop =
     (InputStop job old new stop × KeepsFiles old.files new.files)
     ⊎ (HasInput old.files job × AllRead old.files new.left job × ClientsStop job old new stop)
 
 -- A call came past its sessions: what was read spells a base and a schedule, and one history over the base stands behind what was answered and is to be printed. It is that of the play of the schedule, with the clock of the words.
-pub record CamePast (job : RehearseJob) (old new : Seen) (text : List ℕ) (ended : ℕ) : Type 0 where
+pub record CamePast (job : RehearseJob) (old new : PlaceState) (text : List ℕ) (ended : ℕ) : Type 0 where
   pub base : Base
   pub has_base : HasBase old.files job base
   pub fits : (e : BuildError) → IsFull (dataset_of job) base e → ⊥
@@ -83,18 +84,18 @@ unfoldable pub at_fault : ℕ → ℕ
 at_fault ended = if ended == 0 then 4 else ended
 
 -- the text was printed; or the output failed, and it has a front of the text; or memory ran out over an entry of the log, and it has a front too
-abbrev pub Printed : Option (List ℕ) → Option (List ℕ) → ℕ → ℕ → List ℕ → ℕ → ℕ → Type 0
-Printed held held' outs outs' text ended status =
-    (Appends held held' text × (outs' ≡ outs) × (status ≡ ended))
-    ⊎ (AppendsFront held held' text × Rose outs outs' × (status ≡ at_fault ended))
-    ⊎ (AppendsFront held held' text × (outs' ≡ outs) × (status ≡ 5))
+abbrev pub Printed : SinkState → SinkState → List ℕ → ℕ → ℕ → Type 0
+Printed out out' text ended status =
+    (Appends out.held out'.held text × (out'.faults ≡ out.faults) × (status ≡ ended))
+    ⊎ (AppendsFront out.held out'.held text × Rose out.faults out'.faults × (status ≡ at_fault ended))
+    ⊎ (AppendsFront out.held out'.held text × (out'.faults ≡ out.faults) × (status ≡ 5))
 
 -- A call stopped before its sessions, by this cause and with these files, with this fault line alone; or it came past them, and printed the log and the summary.
-abbrev pub Outcome : RehearseJob → Seen → Seen → Option (List ℕ) → Option (List ℕ) → ℕ → ℕ → ℕ → Type 0
-Outcome job old new held held' outs outs' status =
-    ((stop : Stop) × (status ≡ status_of stop) × StopCause job old new stop × Prints held held' outs outs' (stop_text stop))
-    ⊎ ((text : List ℕ) × (ended : ℕ) × CamePast job old new text ended × Printed held held' outs outs' text ended status)
+abbrev pub Outcome : RehearseJob → PlaceState → PlaceState → SinkState → SinkState → ℕ → Type 0
+Outcome job old new out out' status =
+    ((stop : Stop) × (status ≡ status_of stop) × StopCause job old new stop × Prints out out' (stop_text stop))
+    ⊎ ((text : List ℕ) × (ended : ℕ) × CamePast job old new text ended × Printed out out' text ended status)
 
 -- the call came past its sessions, none ended in a fault, and all was printed
-abbrev pub IsDone : RehearseJob → Seen → Seen → Option (List ℕ) → Option (List ℕ) → Type 0
-IsDone job old new held held' = (text : List ℕ) × CamePast job old new text 0 × Appends held held' text
+abbrev pub IsDone : RehearseJob → PlaceState → PlaceState → SinkState → SinkState → Type 0
+IsDone job old new out out' = (text : List ℕ) × CamePast job old new text 0 × Appends out.held out'.held text

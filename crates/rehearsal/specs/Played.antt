@@ -3,10 +3,11 @@ use Rattle.std.specs.Prelude.{◌≡◌, ℕ, List, [], ◌∷◌, length, map, 
 use Rattle.op_model.specs.declared.base.Dataset.{Dataset}
 use Rattle.op_model.specs.declared.base.Base.{Base}
 use Rattle.pcg_base.specs.declared.clock.Ticks.{Ticks}
+use Rattle.pcg_base.specs.States.{PlaceState, SinkState}
 use Rattle.pcg_base.specs.Told.{KeepsFiles}
 use Rattle.client_answers.specs.declared.answers.ClientAnswers.{ClientAnswers}
 use Rattle.stream_lines.specs.declared.reading.StreamLines.{StreamLines}
-use Rattle.job_files.specs.Seen.{EachStep, KeepsIn, KeepsOut, Seen}
+use Rattle.job_files.specs.Places.{EachStep, KeepsIn, KeepsOut}
 use Rattle.job_files.specs.Clients.{AreRead, kept_of}
 use Rattle.session_results.specs.declared.playing.SessionsDone.{SessionsDone}
 use Rattle.session_results.specs.Ended.{AreDone, Source}
@@ -21,27 +22,27 @@ sources_of (left ∷ lefts) (x ∷ xs) = source_of left x ∷ sources_of lefts x
 sources_of lefts xs = []
 
 -- the requests were read and kept back, the sessions played, and the answers kept back
-pub record ArePlayed {S K : Type 0} (left : S → Option (List ℕ)) (held : K → Option (List ℕ)) (faults : K → ℕ) (d : Dataset) (b : Base) (at : ℕ) (ticks : Ticks) (schedule : List ℕ) (requests answers : List (List ℕ))
-    (sources : List S) (sinks : List (ClientAnswers K)) (old new : Seen) (done : SessionsDone) : Type 0 where
+pub record ArePlayed {S K : Type 0} (left : S → Option (List ℕ)) (state : K → SinkState) (d : Dataset) (b : Base) (at : ℕ) (ticks : Ticks) (schedule : List ℕ) (requests answers : List (List ℕ))
+    (sources : List S) (sinks : List (ClientAnswers K)) (old new : PlaceState) (done : SessionsDone) : Type 0 where
   pub kept : List (Option (List ℕ) × ℕ)
   pub read : List StreamLines
-  pub mid : Seen
+  pub mid : PlaceState
   pub are_read : AreRead (map left sources) kept read
   pub kept_in : EachStep KeepsIn requests kept old mid
   pub ended : List (ClientAnswers K)
   pub count : length ended ≡ length sinks
-  pub kept_out : EachStep KeepsOut answers (map (kept_of held faults) ended) mid new
-  pub done_so : AreDone held faults d b at ticks schedule (sources_of (map left sources) kept) sinks ended done
+  pub kept_out : EachStep KeepsOut answers (map (kept_of state) ended) mid new
+  pub done_so : AreDone state d b at ticks schedule (sources_of (map left sources) kept) sinks ended done
 
 -- memory ran out, and all was kept back, the answers as they were opened
-pub record AreUnplayed {K : Type 0} (held : K → Option (List ℕ)) (faults : K → ℕ) (requests answers : List (List ℕ)) (sinks : List (ClientAnswers K)) (old new : Seen) : Type 0 where
+pub record AreUnplayed {K : Type 0} (state : K → SinkState) (requests answers : List (List ℕ)) (sinks : List (ClientAnswers K)) (old new : PlaceState) : Type 0 where
   pub kept : List (Option (List ℕ) × ℕ)
-  pub mid : Seen
+  pub mid : PlaceState
   pub kept_in : EachStep KeepsIn requests kept old mid
-  pub kept_out : EachStep KeepsOut answers (map (kept_of held faults) sinks) mid new
+  pub kept_out : EachStep KeepsOut answers (map (kept_of state) sinks) mid new
 
 -- between these states of a place files were read and kept back, and no count rose
-pub record IsBefore (old new : Seen) : Type 0 where
+pub record IsBefore (old new : PlaceState) : Type 0 where
   pub files : KeepsFiles old.files new.files
   pub reads : new.reads ≡ old.reads
   pub writes : new.writes ≡ old.writes

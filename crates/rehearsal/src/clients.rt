@@ -5,9 +5,10 @@ ghost use Rattle.std.specs.List.{AllByRecursion, list_any};
 ghost use Rattle.op_model.specs.declared.base.Base.{Base};
 ghost use Rattle.op_model.specs.Ingest.{ingested};
 ghost use Rattle.record_rows.specs.Readings.{Image};
+ghost use Rattle.pcg_base.specs.States.{PlaceState};
 ghost use Rattle.pcg_base.specs.Told.{Files};
 ghost use Rattle.pcg_words.specs.Job.{IsRehearse, all_differ};
-ghost use Rattle.job_files.specs.Seen.{IsLater, Seen, seen};
+ghost use Rattle.job_files.specs.Places.{IsLater};
 ghost use Rattle.job_files.specs.Clients.{AnswersOpen, AreEmpty, AreOpened};
 ghost use Rattle.client_answers.specs.Written.{IsFresh};
 ghost use Rattle.job_files.specs.Kept.{KeepsOther};
@@ -39,7 +40,8 @@ struct Opened<S: Drop, K: Drop> {
 
 /// Why a call stops whose requests couldn't be opened.
 fn no_requests(fault: OpenFault) -> Stop
-    ensures failed { (client : ℕ) → fault ≡ OpenFault.Failed client → result ≡ Stop.ReadFault client FileName.Requests }
+    ensures failed { (client : ℕ) → fault ≡ OpenFault.Failed client
+        → result ≡ Stop.ReadFault client FileName.Requests }
     ensures memory { fault ≡ OpenFault.NoMemory → result ≡ Stop.NoMemory }
 {
     match fault {
@@ -53,7 +55,8 @@ fn no_requests(fault: OpenFault) -> Stop
 
 /// Why a call stops whose answers couldn't be opened.
 fn no_answers(fault: OpenFault) -> Stop
-    ensures failed { (client : ℕ) → fault ≡ OpenFault.Failed client → result ≡ Stop.WriteFault client FileName.Answers }
+    ensures failed { (client : ℕ) → fault ≡ OpenFault.Failed client
+        → result ≡ Stop.WriteFault client FileName.Answers }
     ensures memory { fault ≡ OpenFault.NoMemory → result ≡ Stop.NoMemory }
 {
     match fault {
@@ -77,14 +80,23 @@ where
     requires differ { IsTrue (all_differ files.now.requests) }
     requires few { length files.now.requests < 2 ^ 32 - 1 }
     requires few_answers { length files.now.answers < 2 ^ 32 - 1 }
-    ensures sources { IfOk result (λ o. AreOpened P.In.left P.In.faults (P.files place.old) files.now.requests o.sources.items) }
-    ensures answers { IfOk result (λ o. AreEmpty P.Out.held P.Out.faults (P.files place.old) files.now.answers o.answers.items) }
-    ensures open { OnOk result (AnswersOpen files.now.answers (seen P.files P.left_at P.read_faults P.write_faults P.counts place.old) (seen P.files P.left_at P.read_faults P.write_faults P.counts place.new)) }
-    ensures opened_in { OnOk result (AllByRecursion (λ n. P.opened_in place.new n ≡ true) files.now.requests) }
-    ensures opened_out { OnOk result (AllByRecursion (λ n. P.opened_out place.new n ≡ true) files.now.answers) }
-    ensures stop { IfErr result (λ stop. SessionsStop files.now.requests files.now.answers (seen P.files P.left_at P.read_faults P.write_faults P.counts place.old) (seen P.files P.left_at P.read_faults P.write_faults P.counts place.new) stop) }
-    ensures elsewhere { (n : List ℕ) → list_any (bytes_eq n) files.now.requests ≡ false → P.left_at place.new n ≡ P.left_at place.old n }
-    ensures later { IsLater (seen P.files P.left_at P.read_faults P.write_faults P.counts place.old) (seen P.files P.left_at P.read_faults P.write_faults P.counts place.new) }
+    ensures sources { IfOk result
+        (λ o. AreOpened P.In.left P.In.faults (P.state place.old).files files.now.requests
+        o.sources.items) }
+    ensures answers { IfOk result
+        (λ o. AreEmpty P.Out.state (P.state place.old).files files.now.answers o.answers.items) }
+    ensures open { OnOk result
+        (AnswersOpen files.now.answers (P.state place.old) (P.state place.new)) }
+    ensures opened_in { OnOk result
+        (AllByRecursion (λ n. (P.state place.new).opened_in n ≡ true) files.now.requests) }
+    ensures opened_out { OnOk result
+        (AllByRecursion (λ n. (P.state place.new).opened_out n ≡ true) files.now.answers) }
+    ensures stop { IfErr result
+        (λ stop. SessionsStop files.now.requests files.now.answers (P.state place.old)
+        (P.state place.new) stop) }
+    ensures elsewhere { (n : List ℕ) → list_any (bytes_eq n) files.now.requests ≡ false
+        → (P.state place.new).left n ≡ (P.state place.old).left n }
+    ensures later { IsLater (P.state place.old) (P.state place.new) }
 {
     sources_are_kept();
     answers_are_emptied();
@@ -114,7 +126,8 @@ fn serve_all<P: Place>(
 where
     P::In: Drop,
     P::Out: Drop,
-    requires image { (b : Base) × (at : ℕ) × Image input.dataset b (ingested input.dataset b at) input.words.words }
+    requires image { (b : Base) × (at : ℕ)
+        × Image input.dataset b (ingested input.dataset b at) input.words.words }
     requires room { 8 * input.dataset.capacity ≤ length input.words.words + input.words.spare }
     requires few { length files.now.requests ≤ 64 }
     requires sources { length opened.sources.items ≡ length files.now.requests }
@@ -122,12 +135,21 @@ where
     requires names { length files.now.answers ≡ length files.now.requests }
     requires unfailed { AllByRecursion (λ s. P.In.faults s ≡ 0) opened.sources.items }
     requires fresh { AllByRecursion IsFresh opened.answers.items }
-    requires opened_in { AllByRecursion (λ n. P.opened_in place.old n ≡ true) files.now.requests }
-    requires opened_out { AllByRecursion (λ n. P.opened_out place.old n ≡ true) files.now.answers }
-    requires numbers { AllByRecursion (λ n. (0 < n) × (n ≤ length files.now.requests)) input.schedule.items }
-    ensures none { IfNone result (AreUnplayed P.Out.held P.Out.faults files.now.requests files.now.answers opened.answers.items (seen P.files P.left_at P.read_faults P.write_faults P.counts place.old) (seen P.files P.left_at P.read_faults P.write_faults P.counts place.new)) }
-    ensures done { (b : Base) (at : ℕ) → Image input.dataset b (ingested input.dataset b at) input.words.words
-        → IfSome result (ArePlayed P.In.left P.Out.held P.Out.faults input.dataset b at clock input.schedule.items files.now.requests files.now.answers opened.sources.items opened.answers.items (seen P.files P.left_at P.read_faults P.write_faults P.counts place.old) (seen P.files P.left_at P.read_faults P.write_faults P.counts place.new)) }
+    requires opened_in { AllByRecursion (λ n. (P.state place.old).opened_in n
+        ≡ true) files.now.requests }
+    requires opened_out { AllByRecursion (λ n. (P.state place.old).opened_out n
+        ≡ true) files.now.answers }
+    requires numbers { AllByRecursion (λ n. (0 < n)
+        × (n ≤ length files.now.requests)) input.schedule.items }
+    ensures none { IfNone result
+        (AreUnplayed P.Out.state files.now.requests files.now.answers opened.answers.items
+        (P.state place.old) (P.state place.new)) }
+    ensures done { (b : Base) (at : ℕ)
+        → Image input.dataset b (ingested input.dataset b at) input.words.words
+        → IfSome result
+        (ArePlayed P.In.left P.Out.state input.dataset b at clock input.schedule.items
+        files.now.requests files.now.answers opened.sources.items opened.answers.items
+        (P.state place.old) (P.state place.new)) }
 {
     let Opened { sources, answers } = opened;
     let JobBase {
@@ -171,13 +193,19 @@ where
     P::Out: Drop,
     requires job { IsRehearse job.now }
     requires input { (files : Option Files) × IsRead files job.now input }
-    ensures done { (o : Seen) (b : Base) → IsBefore o (seen P.files P.left_at P.read_faults P.write_faults P.counts place.old)
-        → Image (dataset_of job.now) b (ingested (dataset_of job.now) b (clock_time job.now.clock 0)) input.words.words
-        → IfOk result (AreServed (dataset_of job.now) b job.now.clock input.schedule.items job.now.stems o (seen P.files P.left_at P.read_faults P.write_faults P.counts place.new)) }
-    ensures stop { IfErr result (λ stop. ClientsStop job.now (seen P.files P.left_at P.read_faults P.write_faults P.counts place.old) (seen P.files P.left_at P.read_faults P.write_faults P.counts place.new) stop) }
-    ensures elsewhere { (n : List ℕ) → list_any (bytes_eq n) (requests_of job.now) ≡ false → P.left_at place.new n ≡ P.left_at place.old n }
-    ensures later { IsLater (seen P.files P.left_at P.read_faults P.write_faults P.counts place.old) (seen P.files P.left_at P.read_faults P.write_faults P.counts place.new) }
-    ensures others { KeepsOther (P.files place.old) (answers_of job.now) (P.files place.new) }
+    ensures done { (o : PlaceState) (b : Base) → IsBefore o (P.state place.old)
+        → Image (dataset_of job.now) b
+        (ingested (dataset_of job.now) b (clock_time job.now.clock 0)) input.words.words
+        → IfOk result
+        (AreServed (dataset_of job.now) b job.now.clock input.schedule.items job.now.stems o
+        (P.state place.new)) }
+    ensures stop { IfErr result
+        (λ stop. ClientsStop job.now (P.state place.old) (P.state place.new) stop) }
+    ensures elsewhere { (n : List ℕ) → list_any (bytes_eq n) (requests_of job.now) ≡ false
+        → (P.state place.new).left n ≡ (P.state place.old).left n }
+    ensures later { IsLater (P.state place.old) (P.state place.new) }
+    ensures others { KeepsOther (P.state place.old).files (answers_of job.now)
+        (P.state place.new).files }
 {
     sources_are_kept();
     sinks_are_kept();

@@ -68,9 +68,10 @@ fn summary_of(
 
 /// Writes a summary behind a log that was written, and answers the status.
 fn end_with<K: Sink>(summary: &Summary, out: &mut K) -> u8
-    ensures printed { Printed (K.held out.old) (K.held out.new) (K.faults out.old) (K.faults out.new) (summary_text summary.now) summary.now.status result }
-    ensures flushed { result ≡ 0 → IsFlushed (K.held out.new) (K.flushed out.new) }
-    ensures later { K.faults out.old ≤ K.faults out.new }
+    ensures printed { Printed (K.state out.old) (K.state out.new) (summary_text summary.now)
+        summary.now.status result }
+    ensures flushed { result ≡ 0 → IsFlushed (K.state out.new).held (K.state out.new).flushed }
+    ensures later { (K.state out.old).faults ≤ (K.state out.new).faults }
 {
     if write_summary(summary, out).is_ok() {
         summary.status
@@ -82,10 +83,11 @@ fn end_with<K: Sink>(summary: &Summary, out: &mut K) -> u8
 /// Writes the log and the summary of a call that came past its sessions, and answers the status.
 pub(crate) fn finish<K: Sink>(alloc: Global, clients: u32, done: SessionsDone, out: &mut K) -> u8
     requires image { HasLog Image done.words.words }
-    ensures printed { ForEachLog Image done.words.words (λ d b log. Printed (K.held out.old) (K.held out.new) (K.faults out.old) (K.faults out.new)
+    ensures printed { ForEachLog Image done.words.words
+        (λ d b log. Printed (K.state out.old) (K.state out.new)
         (whole_text d b log clients done.faults.items done.lines done.refused) (status_for done.faults.items) result) }
-    ensures flushed { result ≡ 0 → IsFlushed (K.held out.new) (K.flushed out.new) }
-    ensures later { K.faults out.old ≤ K.faults out.new }
+    ensures flushed { result ≡ 0 → IsFlushed (K.state out.new).held (K.state out.new).flushed }
+    ensures later { (K.state out.old).faults ≤ (K.state out.new).faults }
 {
     let SessionsDone {
         mut words,
@@ -106,8 +108,8 @@ pub(crate) fn finish<K: Sink>(alloc: Global, clients: u32, done: SessionsDone, o
 /// Writes the fault line of a call that stopped before its sessions, and answers its status.
 pub fn stopped<K: Sink>(stop: Stop, out: &mut K) -> u8
     ensures status { result ≡ status_of stop }
-    ensures line { Prints (K.held out.old) (K.held out.new) (K.faults out.old) (K.faults out.new) (stop_text stop) }
-    ensures later { K.faults out.old ≤ K.faults out.new }
+    ensures line { Prints (K.state out.old) (K.state out.new) (stop_text stop) }
+    ensures later { (K.state out.old).faults ≤ (K.state out.new).faults }
 {
     let _ = write_stop(stop, out);
     stop.status()

@@ -4,7 +4,7 @@ ghost use Rattle.std.specs.Prelude.{◌≡◌, ◌≤◌, ◌⊎◌, ℕ, IfErr,
 ghost use Rattle.pcg_base.specs.Told.{IsFlushed};
 ghost use Rattle.pcg_words.specs.Job.{IsRehearse};
 ghost use Rattle.job_files.specs.Kept.{KeepsOther};
-ghost use Rattle.job_files.specs.Seen.{IsLater, seen};
+ghost use Rattle.job_files.specs.Places.{IsLater};
 ghost use Rattle.rehearsal.specs.Exact.{IsDue, IsFine, IsQuiet, Tells};
 ghost use Rattle.rehearsal.specs.Outcomes.{IsDone, Outcome, StopCause, answers_of};
 ghost use Rattle.rehearsal.specs.Served.{IsServed};
@@ -24,10 +24,11 @@ where
     P::In: Drop,
     P::Out: Drop,
     requires { IsRehearse job.now }
-    ensures stop { IfErr result (StopCause job.now (seen P.files P.left_at P.read_faults P.write_faults P.counts place.old) (seen P.files P.left_at P.read_faults P.write_faults P.counts place.new)) }
-    ensures served { IfOk result (IsServed job.now (seen P.files P.left_at P.read_faults P.write_faults P.counts place.old) (seen P.files P.left_at P.read_faults P.write_faults P.counts place.new)) }
-    ensures others { KeepsOther (P.files place.old) (answers_of job.now) (P.files place.new) }
-    ensures later { IsLater (seen P.files P.left_at P.read_faults P.write_faults P.counts place.old) (seen P.files P.left_at P.read_faults P.write_faults P.counts place.new) }
+    ensures stop { IfErr result (StopCause job.now (P.state place.old) (P.state place.new)) }
+    ensures served { IfOk result (IsServed job.now (P.state place.old) (P.state place.new)) }
+    ensures others { KeepsOther (P.state place.old).files (answers_of job.now)
+        (P.state place.new).files }
+    ensures later { IsLater (P.state place.old) (P.state place.new) }
 {
     let input = match read_input(alloc, job, place) {
         Ok(input) => input,
@@ -61,11 +62,13 @@ where
     P::In: Drop,
     P::Out: Drop,
     requires { IsRehearse job.now }
-    ensures outcome { Outcome job.now (seen P.files P.left_at P.read_faults P.write_faults P.counts place.old) (seen P.files P.left_at P.read_faults P.write_faults P.counts place.new) (K.held out.old) (K.held out.new) (K.faults out.old) (K.faults out.new) result }
-    ensures flushed { result ≡ 0 → IsFlushed (K.held out.new) (K.flushed out.new) }
-    ensures others { KeepsOther (P.files place.old) (answers_of job.now) (P.files place.new) }
-    ensures later { IsLater (seen P.files P.left_at P.read_faults P.write_faults P.counts place.old) (seen P.files P.left_at P.read_faults P.write_faults P.counts place.new) }
-    ensures output { K.faults out.old ≤ K.faults out.new }
+    ensures outcome { Outcome job.now (P.state place.old) (P.state place.new) (K.state out.old)
+        (K.state out.new) result }
+    ensures flushed { result ≡ 0 → IsFlushed (K.state out.new).held (K.state out.new).flushed }
+    ensures others { KeepsOther (P.state place.old).files (answers_of job.now)
+        (P.state place.new).files }
+    ensures later { IsLater (P.state place.old) (P.state place.new) }
+    ensures output { (K.state out.old).faults ≤ (K.state out.new).faults }
 {
     match rehearse(alloc, job, place) {
         Ok(done) => finish(alloc, job.stems.list.len() as u32, done, out),

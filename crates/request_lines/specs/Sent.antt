@@ -3,6 +3,7 @@ use Rattle.request_lines.specs.declared.page.Page.{Page}
 use Rattle.std.specs.Prelude.{◌≡◌, ℕ, ◌≤◌, true, false, List, ◌++◌, take, ⊤, Option, Some, None}
 use Rattle.std.specs.Io.KnownBytes.{Keeps}
 use Rattle.pcg_base.specs.Causes.{Rose}
+use Rattle.pcg_base.specs.States.{SinkState}
 use Rattle.pcg_base.specs.Told.{AppendsFront}
 
 -- what a page holds
@@ -15,11 +16,10 @@ Sends None new text rest = ⊤
 Sends (Some xs) None text rest = ⊥
 Sends (Some xs) (Some ys) text rest = (sent : List ℕ) × (ys ≡ xs ++ sent) × (text ≡ sent ++ rest)
 
--- A text was put behind what waits. `held` and `count` are the sink's bytes and its count of faults.
--- Once a write has failed nothing more is written.
-pub record Puts (held held' : Option (List ℕ)) (count count' : ℕ) (page page' : Page) (text : List ℕ) : Type 0 where
-  pub later : count ≤ count'
-  pub stays : page.failed ≡ true → (page'.failed ≡ true) × Keeps held held'
-  pub goes : page'.failed ≡ false → Sends held held' (waiting page ++ text) (waiting page')
-  pub still : page'.failed ≡ false → count' ≡ count
-  pub fails : page.failed ≡ false → page'.failed ≡ true → AppendsFront held held' (waiting page ++ text) × Rose count count'
+-- A text was put behind what waits, by way of a sink. Once a write has failed nothing more is written.
+pub record Puts (sink sink' : SinkState) (page page' : Page) (text : List ℕ) : Type 0 where
+  pub later : sink.faults ≤ sink'.faults
+  pub stays : page.failed ≡ true → (page'.failed ≡ true) × Keeps sink.held sink'.held
+  pub goes : page'.failed ≡ false → Sends sink.held sink'.held (waiting page ++ text) (waiting page')
+  pub still : page'.failed ≡ false → sink'.faults ≡ sink.faults
+  pub fails : page.failed ≡ false → page'.failed ≡ true → AppendsFront sink.held sink'.held (waiting page ++ text) × Rose sink.faults sink'.faults

@@ -15,7 +15,7 @@ use pcg_base::{Failed, Sink};
 
 /// Puts the request of a merge of one pair.
 fn put_pair<K: Sink>(page: &mut Page, out: &mut K, pair: AskedPair)
-    ensures { Puts (K.held out.old) (K.held out.new) (K.faults out.old) (K.faults out.new) page.old page.new (merge_text (pair ∷ [])) }
+    ensures { Puts (K.state out.old) (K.state out.new) page.old page.new (merge_text (pair ∷ [])) }
 {
     page.put_id(out, b"{\"a\":", pair.a);
     page.put_id(out, b",\"b\":", pair.b);
@@ -24,7 +24,7 @@ fn put_pair<K: Sink>(page: &mut Page, out: &mut K, pair: AskedPair)
 
 /// Puts the request of a merge.
 fn put_merge<K: Sink>(page: &mut Page, out: &mut K, pairs: &[AskedPair])
-    ensures { Puts (K.held out.old) (K.held out.new) (K.faults out.old) (K.faults out.new) page.old page.new (merge_text pairs.now) }
+    ensures { Puts (K.state out.old) (K.state out.new) page.old page.new (merge_text pairs.now) }
 {
     if pairs.len() == 1 {
         put_pair(page, out, pairs[0]);
@@ -37,7 +37,8 @@ fn put_merge<K: Sink>(page: &mut Page, out: &mut K, pairs: &[AskedPair])
 
 /// Puts the request of a split.
 fn put_split<K: Sink>(page: &mut Page, out: &mut K, sources: &Ids, sinks: &Ids)
-    ensures { Puts (K.held out.old) (K.held out.new) (K.faults out.old) (K.faults out.new) page.old page.new (edit_text (Edit.Split sources.now sinks.now)) }
+    ensures { Puts (K.state out.old) (K.state out.new) page.old page.new
+        (edit_text (Edit.Split sources.now sinks.now)) }
 {
     put_ids(page, out, b"{\"do\":\"split\",\"sinks\":", sinks);
     put_ids(page, out, b",\"sources\":", sources);
@@ -46,7 +47,8 @@ fn put_split<K: Sink>(page: &mut Page, out: &mut K, sources: &Ids, sinks: &Ids)
 
 /// Puts a piece of text, a number behind it, and the end of an object.
 fn put_named<K: Sink>(page: &mut Page, out: &mut K, piece: &[u8], op: u64)
-    ensures { Puts (K.held out.old) (K.held out.new) (K.faults out.old) (K.faults out.new) page.old page.new ((piece.now ++ decimal op) ++ codes "}") }
+    ensures { Puts (K.state out.old) (K.state out.new) page.old page.new ((piece.now ++ decimal op)
+        ++ codes "}") }
 {
     page.put_number(out, piece, op);
     page.put(out, b"}");
@@ -55,7 +57,7 @@ fn put_named<K: Sink>(page: &mut Page, out: &mut K, piece: &[u8], op: u64)
 /// Puts the request that made an entry.
 #[tactic(auto, unfolding(crate::specs::Texts::asked_text, crate::specs::Texts::edit_text))]
 fn put_asked<K: Sink>(page: &mut Page, out: &mut K, asked: &Asked)
-    ensures { Puts (K.held out.old) (K.held out.new) (K.faults out.old) (K.faults out.new) page.old page.new (asked_text asked.now) }
+    ensures { Puts (K.state out.old) (K.state out.new) page.old page.new (asked_text asked.now) }
 {
     match asked {
         Asked::Ingest => page.put(out, b"{\"do\":\"ingest\"}"),
@@ -68,7 +70,7 @@ fn put_asked<K: Sink>(page: &mut Page, out: &mut K, asked: &Asked)
 
 /// Puts a line of the operation log.
 fn put_entry<K: Sink>(page: &mut Page, out: &mut K, entry: &Entry)
-    ensures { Puts (K.held out.old) (K.held out.new) (K.faults out.old) (K.faults out.new) page.old page.new (text_of_entry entry.now) }
+    ensures { Puts (K.state out.old) (K.state out.new) page.old page.new (text_of_entry entry.now) }
 {
     page.put_number(out, b"{\"at\":", entry.at);
     page.put(out, b",\"changed\":");
@@ -89,10 +91,12 @@ fn put_entry<K: Sink>(page: &mut Page, out: &mut K, entry: &Entry)
 /// whole of it where the flush failed. It takes no memory.
 #[tactic(auto, using(crate::proofs::Whole::whole_ok))]
 pub fn write_entry<K: Sink>(entry: &Entry, out: &mut K) -> Result<(), Failed>
-    ensures ok { OnOk result (Appends (K.held out.old) (K.held out.new) (text_of_entry entry.now)) }
-    ensures err { OnErr result (AppendsFront (K.held out.old) (K.held out.new) (text_of_entry entry.now)) }
-    ensures flushed { OnOk result (IsFlushed (K.held out.new) (K.flushed out.new)) }
-    ensures cause { HasCause (K.faults out.old) (K.faults out.new) result }
+    ensures ok { OnOk result
+        (Appends (K.state out.old).held (K.state out.new).held (text_of_entry entry.now)) }
+    ensures err { OnErr result
+        (AppendsFront (K.state out.old).held (K.state out.new).held (text_of_entry entry.now)) }
+    ensures flushed { OnOk result (IsFlushed (K.state out.new).held (K.state out.new).flushed) }
+    ensures cause { HasCause (K.state out.old).faults (K.state out.new).faults result }
 {
     let mut page = Page::new();
     put_entry(&mut page, out, entry);

@@ -23,7 +23,8 @@ pub fn found(object: &Value, name: FieldName) -> Option<&Value>
 
 /// The value of a field that has to be there.
 fn needed(object: &Value, name: FieldName) -> Result<&Value, LineError>
-    ensures { result_map_both (λ v. view v.now) (λ e. e) result ≡ or_err (LineError.MissingField name) (found name (view object.now)) }
+    ensures { result_map_both (λ v. view v.now) (λ e. e) result
+        ≡ or_err (LineError.MissingField name) (found name (view object.now)) }
 {
     match found(object, name) {
         Some(value) => Ok(value),
@@ -105,7 +106,8 @@ pub fn time(object: &Value) -> Result<Option<u64>, LineError>
 
 /// What the items of a list of ids are. `BadField` where one is no id.
 fn all_ids(alloc: Global, items: &[Value], name: FieldName) -> Result<Ids, LineError>
-    ensures { Gives result (or_err (LineError.BadField name) (all_in id_in (items_view items.now))) }
+    ensures { Gives result
+        (or_err (LineError.BadField name) (all_in id_in (items_view items.now))) }
 {
     let mut list = Vec::new(alloc);
     for item in items {
@@ -158,7 +160,8 @@ fn pair_in(value: &Value) -> Option<AskedPair>
 
 /// What the items of a list of pairs are. `BadField` where one is no list of two ids.
 fn all_pairs(alloc: Global, items: &[Value]) -> Result<AskedPairs, LineError>
-    ensures { Gives result (or_err (LineError.BadField FieldName.Pairs) (all_in pair_in (items_view items.now))) }
+    ensures { Gives result
+        (or_err (LineError.BadField FieldName.Pairs) (all_in pair_in (items_view items.now))) }
 {
     let mut list = Vec::new(alloc);
     for item in items {

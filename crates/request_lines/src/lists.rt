@@ -13,12 +13,13 @@ pub trait Written {
 
     /// Puts the text on a page.
     fn put_on<K: Sink>(&self, page: &mut Page, out: &mut K)
-        ensures { Puts (K.held out.old) (K.held out.new) (K.faults out.old) (K.faults out.new) page.old page.new (text self.now) };
+        ensures { Puts (K.state out.old) (K.state out.new) page.old page.new (text self.now) };
 }
 
 /// Puts the item at this index of a list, after a comma where it isn't the first.
 fn put_item<K: Sink, T: Written>(page: &mut Page, out: &mut K, index: usize, item: &T)
-    ensures { Puts (K.held out.old) (K.held out.new) (K.faults out.old) (K.faults out.new) page.old page.new ((if index == 0 then [] else codes ",") ++ T.text item.now) }
+    ensures { Puts (K.state out.old) (K.state out.new) page.old page.new
+        ((if index == 0 then [] else codes ",") ++ T.text item.now) }
 {
     if index == 0 {
         item.put_on(page, out);
@@ -30,7 +31,8 @@ fn put_item<K: Sink, T: Written>(page: &mut Page, out: &mut K, index: usize, ite
 
 /// Puts a list.
 pub fn put_list<K: Sink, T: Written>(page: &mut Page, out: &mut K, list: &[T])
-    ensures { Puts (K.held out.old) (K.held out.new) (K.faults out.old) (K.faults out.new) page.old page.new (array (map T.text list.now)) }
+    ensures { Puts (K.state out.old) (K.state out.new) page.old page.new
+        (array (map T.text list.now)) }
 {
     page.put(out, b"[");
     for i in 0..list.len() {

@@ -51,7 +51,7 @@ impl Page {
 
     /// Sends what waits, if no write has failed.
     fn send<K: Sink>(&mut self, out: &mut K)
-        ensures puts { Puts (K.held out.old) (K.held out.new) (K.faults out.old) (K.faults out.new) self.old self.new [] }
+        ensures puts { Puts (K.state out.old) (K.state out.new) self.old self.new [] }
         ensures empty { self.new.failed ≡ false → waiting self.new ≡ [] }
         ensures room { self.new.failed ≡ false → self.new.len ≡ 0 }
     {
@@ -67,7 +67,7 @@ impl Page {
     /// Sends a full page.
     #[tactic(auto, using(crate::proofs::Putting::puts_waiting))]
     fn make_room<K: Sink>(&mut self, out: &mut K)
-        ensures puts { Puts (K.held out.old) (K.held out.new) (K.faults out.old) (K.faults out.new) self.old self.new [] }
+        ensures puts { Puts (K.state out.old) (K.state out.new) self.old self.new [] }
         ensures room { self.new.failed ≡ false → self.new.len < 8192 }
     {
         if self.len == PAGE {
@@ -77,7 +77,7 @@ impl Page {
 
     /// Puts a piece of text behind what waits. A page that is full is sent.
     pub fn put<K: Sink>(&mut self, out: &mut K, piece: &[u8])
-        ensures { Puts (K.held out.old) (K.held out.new) (K.faults out.old) (K.faults out.new) self.old self.new piece.now }
+        ensures { Puts (K.state out.old) (K.state out.new) self.old self.new piece.now }
     {
         let mut at = 0;
         while at < piece.len() {
@@ -92,7 +92,8 @@ impl Page {
 
     /// Puts a piece of text and a number behind it.
     pub fn put_number<K: Sink>(&mut self, out: &mut K, piece: &[u8], number: u64)
-        ensures { Puts (K.held out.old) (K.held out.new) (K.faults out.old) (K.faults out.new) self.old self.new (piece.now ++ decimal number) }
+        ensures { Puts (K.state out.old) (K.state out.new) self.old self.new (piece.now
+            ++ decimal number) }
     {
         let mut digits = Buffer::new();
         self.put(out, piece);
@@ -101,7 +102,8 @@ impl Page {
 
     /// Puts a piece of text and an id, as a string, behind it.
     pub fn put_id<K: Sink>(&mut self, out: &mut K, piece: &[u8], id: NodeId)
-        ensures { Puts (K.held out.old) (K.held out.new) (K.faults out.old) (K.faults out.new) self.old self.new (piece.now ++ id_text id) }
+        ensures { Puts (K.state out.old) (K.state out.new) self.old self.new (piece.now
+            ++ id_text id) }
     {
         self.put(out, piece);
         self.put_number(out, b"\"", id.0);
@@ -110,7 +112,8 @@ impl Page {
 
     /// Puts a piece of text and a word, as a string, behind it.
     pub fn put_word<K: Sink>(&mut self, out: &mut K, piece: &[u8], word: &[u8])
-        ensures { Puts (K.held out.old) (K.held out.new) (K.faults out.old) (K.faults out.new) self.old self.new (piece.now ++ quoted word.now) }
+        ensures { Puts (K.state out.old) (K.state out.new) self.old self.new (piece.now
+            ++ quoted word.now) }
     {
         self.put(out, piece);
         self.put(out, b"\"");
@@ -121,10 +124,10 @@ impl Page {
     /// Sends what still waits, and flushes the sink. `Failed` says that a write or the flush failed.
     /// Else all that the sink holds is flushed.
     pub fn finish<K: Sink>(&mut self, out: &mut K) -> Result<(), Failed>
-        ensures puts { Puts (K.held out.old) (K.held out.new) (K.faults out.old) (K.faults out.new) self.old self.new [] }
+        ensures puts { Puts (K.state out.old) (K.state out.new) self.old self.new [] }
         ensures ok { OnOk result (self.new.failed ≡ false) }
         ensures err { OnErr result (self.new.failed ≡ true) }
-        ensures flushed { OnOk result (IsFlushed (K.held out.new) (K.flushed out.new)) }
+        ensures flushed { OnOk result (IsFlushed (K.state out.new).held (K.state out.new).flushed) }
         ensures empty { self.new.failed ≡ false → waiting self.new ≡ [] }
     {
         self.send(out);

@@ -12,7 +12,8 @@ use pcg_base::Sink;
 
 /// Puts a piece of text, the length of the log behind it, and the end of the line.
 pub fn put_seen<K: Sink>(page: &mut Page, out: &mut K, piece: &[u8], seen: u32)
-    ensures { Puts (K.held out.old) (K.held out.new) (K.faults out.old) (K.faults out.new) page.old page.new ((piece.now ++ decimal seen) ++ codes "}\n") }
+    ensures { Puts (K.state out.old) (K.state out.new) page.old page.new
+        ((piece.now ++ decimal seen) ++ codes "}\n") }
 {
     page.put_number(out, piece, seen as u64);
     page.put(out, b"}\n");
@@ -20,7 +21,7 @@ pub fn put_seen<K: Sink>(page: &mut Page, out: &mut K, piece: &[u8], seen: u32)
 
 /// Puts a refusal without fields, at no log.
 pub fn put_bare<K: Sink>(page: &mut Page, out: &mut K, name: &[u8])
-    ensures { Puts (K.held out.old) (K.held out.new) (K.faults out.old) (K.faults out.new) page.old page.new (bare name.now) }
+    ensures { Puts (K.state out.old) (K.state out.new) page.old page.new (bare name.now) }
 {
     page.put_word(out, b"{\"ok\":false,\"refusal\":", name);
     page.put(out, b"}\n");
@@ -28,7 +29,7 @@ pub fn put_bare<K: Sink>(page: &mut Page, out: &mut K, name: &[u8])
 
 /// Puts a refusal without fields.
 fn put_plain<K: Sink>(page: &mut Page, out: &mut K, name: &[u8], seen: u32)
-    ensures { Puts (K.held out.old) (K.held out.new) (K.faults out.old) (K.faults out.new) page.old page.new (plain name.now seen) }
+    ensures { Puts (K.state out.old) (K.state out.new) page.old page.new (plain name.now seen) }
 {
     page.put_word(out, b"{\"ok\":false,\"refusal\":", name);
     put_seen(page, out, b",\"seen\":", seen);
@@ -43,7 +44,8 @@ fn put_number<K: Sink>(
     name: &[u8],
     seen: u32,
 )
-    ensures { Puts (K.held out.old) (K.held out.new) (K.faults out.old) (K.faults out.new) page.old page.new (telling key.now (decimal number) name.now seen) }
+    ensures { Puts (K.state out.old) (K.state out.new) page.old page.new
+        (telling key.now (decimal number) name.now seen) }
 {
     page.put_word(out, b"{", key);
     page.put_number(out, b":", number);
@@ -53,7 +55,8 @@ fn put_number<K: Sink>(
 
 /// Puts a refusal that names an id.
 fn put_id<K: Sink>(page: &mut Page, out: &mut K, id: NodeId, name: &[u8], seen: u32)
-    ensures { Puts (K.held out.old) (K.held out.new) (K.faults out.old) (K.faults out.new) page.old page.new (telling (codes "id") (id_text id) name.now seen) }
+    ensures { Puts (K.state out.old) (K.state out.new) page.old page.new
+        (telling (codes "id") (id_text id) name.now seen) }
 {
     page.put_id(out, b"{\"id\":", id);
     page.put_word(out, b",\"ok\":false,\"refusal\":", name);
@@ -62,7 +65,8 @@ fn put_id<K: Sink>(page: &mut Page, out: &mut K, id: NodeId, name: &[u8], seen: 
 
 /// Puts a refusal that names an operation.
 fn put_op<K: Sink>(page: &mut Page, out: &mut K, op: u64, name: &[u8], seen: u32)
-    ensures { Puts (K.held out.old) (K.held out.new) (K.faults out.old) (K.faults out.new) page.old page.new (of_operation op name.now seen) }
+    ensures { Puts (K.state out.old) (K.state out.new) page.old page.new
+        (of_operation op name.now seen) }
 {
     page.put_number(out, b"{\"ok\":false,\"op\":", op);
     page.put_word(out, b",\"refusal\":", name);
@@ -71,7 +75,8 @@ fn put_op<K: Sink>(page: &mut Page, out: &mut K, op: u64, name: &[u8], seen: u32
 
 /// Puts the refusal of a merge whose ends have one root.
 fn put_same_root<K: Sink>(page: &mut Page, out: &mut K, root: NodeId, seen: u32)
-    ensures { Puts (K.held out.old) (K.held out.new) (K.faults out.old) (K.faults out.new) page.old page.new (refused_text (Refusal.SameRoot root) seen) }
+    ensures { Puts (K.state out.old) (K.state out.new) page.old page.new
+        (refused_text (Refusal.SameRoot root) seen) }
 {
     page.put_id(
         out,
@@ -89,7 +94,8 @@ fn put_different_roots<K: Sink>(
     other: NodeId,
     seen: u32,
 )
-    ensures { Puts (K.held out.old) (K.held out.new) (K.faults out.old) (K.faults out.new) page.old page.new (refused_text (Refusal.DifferentRoots first other) seen) }
+    ensures { Puts (K.state out.old) (K.state out.new) page.old page.new
+        (refused_text (Refusal.DifferentRoots first other) seen) }
 {
     page.put_id(out, b"{\"first\":", first);
     page.put_id(out, b",\"ok\":false,\"other\":", other);
@@ -103,7 +109,8 @@ fn put_different_roots<K: Sink>(
 
 /// Puts the refusal of a split whose marks are glued.
 fn put_glued<K: Sink>(page: &mut Page, out: &mut K, source: NodeId, sink: NodeId, seen: u32)
-    ensures { Puts (K.held out.old) (K.held out.new) (K.faults out.old) (K.faults out.new) page.old page.new (refused_text (Refusal.Glued source sink) seen) }
+    ensures { Puts (K.state out.old) (K.state out.new) page.old page.new
+        (refused_text (Refusal.Glued source sink) seen) }
 {
     page.put_number(
         out,
@@ -117,7 +124,8 @@ fn put_glued<K: Sink>(page: &mut Page, out: &mut K, source: NodeId, sink: NodeId
 
 /// Puts the refusal of an entry that needs more records than are spare.
 fn put_store_full<K: Sink>(page: &mut Page, out: &mut K, need: u64, spare: u64, seen: u32)
-    ensures { Puts (K.held out.old) (K.held out.new) (K.faults out.old) (K.faults out.new) page.old page.new (refused_text (Refusal.StoreFull need spare) seen) }
+    ensures { Puts (K.state out.old) (K.state out.new) page.old page.new
+        (refused_text (Refusal.StoreFull need spare) seen) }
 {
     page.put_number(out, b"{\"need\":", need);
     page.put_number(
@@ -137,7 +145,8 @@ fn put_ids_spent<K: Sink>(
     place: (u32, u32, u32),
     seen: u32,
 )
-    ensures { Puts (K.held out.old) (K.held out.new) (K.faults out.old) (K.faults out.new) page.old page.new (refused_text (Refusal.IdsSpent layer place.0 place.1 place.2) seen) }
+    ensures { Puts (K.state out.old) (K.state out.new) page.old page.new
+        (refused_text (Refusal.IdsSpent layer place.0 place.1 place.2) seen) }
 {
     page.put_number(out, b"{\"layer\":", layer as u64);
     page.put_number(
@@ -154,7 +163,8 @@ fn put_ids_spent<K: Sink>(
 /// Puts the answer to a request that is refused at a log of this length.
 #[tactic(auto, unfolding(crate::specs::Refused::refused_text))]
 pub fn put_refused<K: Sink>(page: &mut Page, out: &mut K, refusal: Refusal, seen: u32)
-    ensures { Puts (K.held out.old) (K.held out.new) (K.faults out.old) (K.faults out.new) page.old page.new (refused_text refusal seen) }
+    ensures { Puts (K.state out.old) (K.state out.new) page.old page.new
+        (refused_text refusal seen) }
 {
     match refusal {
         Refusal::TooEarly { first } => put_number(page, out, b"first", first, b"TooEarly", seen),
@@ -229,7 +239,7 @@ pub fn name_of(field: FieldName) -> &'static str
 
 /// Puts the answer to a line one of whose fields has this fault.
 fn put_field<K: Sink>(page: &mut Page, out: &mut K, field: FieldName, fault: &[u8])
-    ensures { Puts (K.held out.old) (K.held out.new) (K.faults out.old) (K.faults out.new) page.old page.new (lacking field fault.now) }
+    ensures { Puts (K.state out.old) (K.state out.new) page.old page.new (lacking field fault.now) }
 {
     page.put_word(out, b"{\"name\":", name_of(field).as_bytes());
     page.put_word(out, b",\"ok\":false,\"refusal\":", fault);
@@ -238,7 +248,8 @@ fn put_field<K: Sink>(page: &mut Page, out: &mut K, field: FieldName, fault: &[u
 
 /// Puts the answer to a line of too many bytes.
 fn put_line_too_long<K: Sink>(page: &mut Page, out: &mut K, bytes: u64)
-    ensures { Puts (K.held out.old) (K.held out.new) (K.faults out.old) (K.faults out.new) page.old page.new (bad_line_text (LineError.LineTooLong bytes)) }
+    ensures { Puts (K.state out.old) (K.state out.new) page.old page.new
+        (bad_line_text (LineError.LineTooLong bytes)) }
 {
     page.put_number(out, b"{\"bytes\":", bytes);
     page.put(out, b",\"ok\":false,\"refusal\":\"LineTooLong\"}\n");
@@ -247,7 +258,7 @@ fn put_line_too_long<K: Sink>(page: &mut Page, out: &mut K, bytes: u64)
 /// Puts the answer to a line that is no request.
 #[tactic(auto, unfolding(crate::specs::Refused::bad_line_text))]
 pub fn put_bad_line<K: Sink>(page: &mut Page, out: &mut K, error: LineError)
-    ensures { Puts (K.held out.old) (K.held out.new) (K.faults out.old) (K.faults out.new) page.old page.new (bad_line_text error) }
+    ensures { Puts (K.state out.old) (K.state out.new) page.old page.new (bad_line_text error) }
 {
     match error {
         LineError::LineTooLong { bytes } => put_line_too_long(page, out, bytes),

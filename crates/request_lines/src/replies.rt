@@ -16,7 +16,8 @@ use pcg_base::{Failed, Sink};
 
 /// Puts the answer to a read of a root.
 fn put_root<K: Sink>(page: &mut Page, out: &mut K, root: NodeId, seen: u32)
-    ensures { Puts (K.held out.old) (K.held out.new) (K.faults out.old) (K.faults out.new) page.old page.new (text_of_reply (Reply.Root root seen)) }
+    ensures { Puts (K.state out.old) (K.state out.new) page.old page.new
+        (text_of_reply (Reply.Root root seen)) }
 {
     page.put_id(out, b"{\"ok\":true,\"root\":", root);
     put_seen(page, out, b",\"seen\":", seen);
@@ -24,7 +25,8 @@ fn put_root<K: Sink>(page: &mut Page, out: &mut K, root: NodeId, seen: u32)
 
 /// Puts the answer to a read of a path.
 fn put_path<K: Sink>(page: &mut Page, out: &mut K, nodes: &PathIds, seen: u32)
-    ensures { Puts (K.held out.old) (K.held out.new) (K.faults out.old) (K.faults out.new) page.old page.new (text_of_reply (Reply.Path nodes.now seen)) }
+    ensures { Puts (K.state out.old) (K.state out.new) page.old page.new
+        (text_of_reply (Reply.Path nodes.now seen)) }
 {
     page.put(out, b"{\"ok\":true,\"path\":");
     put_list(page, out, &nodes.nodes[..nodes.count as usize]);
@@ -33,7 +35,8 @@ fn put_path<K: Sink>(page: &mut Page, out: &mut K, nodes: &PathIds, seen: u32)
 
 /// Puts the answer to a read of leaves.
 fn put_leaves<K: Sink>(page: &mut Page, out: &mut K, leaves: &Ids, seen: u32)
-    ensures { Puts (K.held out.old) (K.held out.new) (K.faults out.old) (K.faults out.new) page.old page.new (text_of_reply (Reply.Leaves leaves.now seen)) }
+    ensures { Puts (K.state out.old) (K.state out.new) page.old page.new
+        (text_of_reply (Reply.Leaves leaves.now seen)) }
 {
     page.put(out, b"{\"leaves\":");
     put_list(page, out, leaves.list.as_slice());
@@ -42,7 +45,8 @@ fn put_leaves<K: Sink>(page: &mut Page, out: &mut K, leaves: &Ids, seen: u32)
 
 /// Puts the answer to a read of changes.
 fn put_changes<K: Sink>(page: &mut Page, out: &mut K, ops: &Summaries, seen: u32)
-    ensures { Puts (K.held out.old) (K.held out.new) (K.faults out.old) (K.faults out.new) page.old page.new (text_of_reply (Reply.Changes ops.now seen)) }
+    ensures { Puts (K.state out.old) (K.state out.new) page.old page.new
+        (text_of_reply (Reply.Changes ops.now seen)) }
 {
     page.put(out, b"{\"changes\":");
     put_list(page, out, ops.list.as_slice());
@@ -51,7 +55,8 @@ fn put_changes<K: Sink>(page: &mut Page, out: &mut K, ops: &Summaries, seen: u32
 
 /// Puts a piece of text and a list of ids behind it.
 pub fn put_ids<K: Sink>(page: &mut Page, out: &mut K, piece: &[u8], ids: &Ids)
-    ensures { Puts (K.held out.old) (K.held out.new) (K.faults out.old) (K.faults out.new) page.old page.new (piece.now ++ ids_text ids.now) }
+    ensures { Puts (K.state out.old) (K.state out.new) page.old page.new (piece.now
+        ++ ids_text ids.now) }
 {
     page.put(out, piece);
     put_list(page, out, ids.list.as_slice());
@@ -67,7 +72,8 @@ fn put_edited<K: Sink>(
     made: &Ids,
     seen: u32,
 )
-    ensures { Puts (K.held out.old) (K.held out.new) (K.faults out.old) (K.faults out.new) page.old page.new (edited_text op at retired.now made.now None seen) }
+    ensures { Puts (K.state out.old) (K.state out.new) page.old page.new
+        (edited_text op at retired.now made.now None seen) }
 {
     page.put_number(out, b"{\"at\":", at);
     put_ids(page, out, b",\"made\":", made);
@@ -87,7 +93,8 @@ fn put_split<K: Sink>(
     shown: &Shown,
     seen: u32,
 )
-    ensures { Puts (K.held out.old) (K.held out.new) (K.faults out.old) (K.faults out.new) page.old page.new (edited_text op at retired.now made.now (Some shown.now) seen) }
+    ensures { Puts (K.state out.old) (K.state out.new) page.old page.new
+        (edited_text op at retired.now made.now (Some shown.now) seen) }
 {
     page.put_number(out, b"{\"at\":", at);
     page.put(out, b",\"cut\":");
@@ -113,7 +120,8 @@ fn put_done<K: Sink>(
     shown: &Option<Shown>,
     seen: u32,
 )
-    ensures { Puts (K.held out.old) (K.held out.new) (K.faults out.old) (K.faults out.new) page.old page.new (edited_text op at retired.now made.now shown.now seen) }
+    ensures { Puts (K.state out.old) (K.state out.new) page.old page.new
+        (edited_text op at retired.now made.now shown.now seen) }
 {
     match shown {
         None => put_edited(page, out, op, at, retired, made, seen),
@@ -124,7 +132,7 @@ fn put_done<K: Sink>(
 /// Puts the text of a reply.
 #[tactic(auto, unfolding(crate::specs::Texts::text_of_reply))]
 fn put_reply<K: Sink>(page: &mut Page, out: &mut K, reply: &Reply)
-    ensures { Puts (K.held out.old) (K.held out.new) (K.faults out.old) (K.faults out.new) page.old page.new (text_of_reply reply.now) }
+    ensures { Puts (K.state out.old) (K.state out.new) page.old page.new (text_of_reply reply.now) }
 {
     match reply {
         Reply::Root { root, seen } => put_root(page, out, *root, *seen),
@@ -151,10 +159,12 @@ fn put_reply<K: Sink>(page: &mut Page, out: &mut K, reply: &Reply)
 /// failed. It takes no memory.
 #[tactic(auto, using(crate::proofs::Whole::whole_ok))]
 pub fn write_reply<K: Sink>(reply: &Reply, out: &mut K) -> Result<(), Failed>
-    ensures ok { OnOk result (Appends (K.held out.old) (K.held out.new) (text_of_reply reply.now)) }
-    ensures err { OnErr result (AppendsFront (K.held out.old) (K.held out.new) (text_of_reply reply.now)) }
-    ensures flushed { OnOk result (IsFlushed (K.held out.new) (K.flushed out.new)) }
-    ensures cause { HasCause (K.faults out.old) (K.faults out.new) result }
+    ensures ok { OnOk result
+        (Appends (K.state out.old).held (K.state out.new).held (text_of_reply reply.now)) }
+    ensures err { OnErr result
+        (AppendsFront (K.state out.old).held (K.state out.new).held (text_of_reply reply.now)) }
+    ensures flushed { OnOk result (IsFlushed (K.state out.new).held (K.state out.new).flushed) }
+    ensures cause { HasCause (K.state out.old).faults (K.state out.new).faults result }
 {
     let mut page = Page::new();
     put_reply(&mut page, out, reply);

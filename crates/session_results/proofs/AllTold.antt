@@ -3,6 +3,7 @@ use Rattle.std.proofs.Common.{◌≡◌, ℕ, zero, suc, ◌+◌, ◌^◌, ◌<�
 use Rattle.std.specs.Prelude.{slice_get, sum_by}
 use Rattle.std.specs.List.{AllByRecursion}
 use Rattle.std.proofs.lemmas.List.Sums.{sum_by-cons}
+use Rattle.pcg_base.specs.States.{SinkState}
 use Rattle.op_model.specs.declared.base.Dataset.{Dataset}
 use Rattle.op_model.specs.declared.base.Base.{Base}
 use Rattle.op_model.specs.declared.entry.Entry.{Entry}
@@ -16,17 +17,17 @@ use Rattle.session_results.specs.Ended.{AreLines, Source, streams_of}
 use Rattle.session_results.specs.Results.{AllSessions, SessionResult, clients_of, fault_at, faults_from, refusal_count, reply_count}
 use Rattle.session_results.proofs.OneSession.{Told, told}
 
-module _ {K : Type 0} (held : K → Option (List ℕ)) (faults : K → ℕ) (d : Dataset) (b : Base) (log : List Entry) where
+module _ {K : Type 0} (seen : K → SinkState) (d : Dataset) (b : Base) (log : List Entry) where
   -- what is known of a client by its place
   abbrev pub Facts : ℕ → List StreamLines → List (ClientAnswers K) → List (ClientAnswers K) → List ClientState → Type 0
   Facts client read old new states =
       (k m : ℕ) (r : StreamLines) (x y : ClientAnswers K) (s : ClientState) → m ≡ client + k → slice_get read k ≡ Some r → slice_get old k ≡ Some x → slice_get new k ≡ Some y → slice_get states k ≡ Some s
-      → Answered held faults x y s × WholeTranscript d b log m (asked_of r).0 (reverse s.replies) × (y.failed ≡ false → length s.replies ≡ length (asked_of r).0)
+      → Answered seen x y s × WholeTranscript d b log m (asked_of r).0 (reverse s.replies) × (y.failed ≡ false → length s.replies ≡ length (asked_of r).0)
 
   -- the results of all sessions, from the client of this number on
   pub record Sessions (client : ℕ) (sources : List Source) (read : List StreamLines) (old new : List (ClientAnswers K)) (states : List ClientState) : Type 0 where
     pub results : List SessionResult
-    pub sessions : AllSessions d b log client (streams_of held faults sources old new) results
+    pub sessions : AllSessions d b log client (streams_of seen sources old new) results
     pub count : length results ≡ length sources
     pub replied : (k : ℕ) (r : SessionResult) → slice_get results k ≡ Some r → (s : ClientState) × (slice_get states k ≡ Some s) × (reverse s.replies ≡ r.written ++ option_to_list r.last)
     pub asked : clients_of results ≡ map asked_of read
@@ -40,7 +41,7 @@ module _ {K : Type 0} (held : K → Option (List ℕ)) (faults : K → ℕ) (d :
 
   -- one more client, before the others
   one_more : (client : ℕ) (x : Source) (sources : List Source) (r : StreamLines) (read : List StreamLines) (o n : ClientAnswers K) (old new : List (ClientAnswers K)) (s : ClientState) (states : List ClientState)
-      → Told held faults d b log client x r o n s → Sessions (client + 1) sources read old new states → Sessions client (x ∷ sources) (r ∷ read) (o ∷ old) (n ∷ new) (s ∷ states)
+      → Told seen d b log client x r o n s → Sessions (client + 1) sources read old new states → Sessions client (x ∷ sources) (r ∷ read) (o ∷ old) (n ∷ new) (s ∷ states)
   unfolding streams_of clients_of faults_from faults_told reply_count refusal_count
   one_more client x sources r read o n old new s states t rest =
       record {
@@ -63,7 +64,7 @@ module _ {K : Type 0} (held : K → Option (List ℕ)) (faults : K → ℕ) (d :
   all_told client [] [] [] [] [] h few p q u f = none_told client
   all_told client (x ∷ sources) (r ∷ read) (o ∷ old) (n ∷ new) (s ∷ states) h few p q u f =
       let one = f 0 client r o n s (omega arith) refl refl refl refl in
-      one_more client x sources r read o n old new s states (told held faults d b log client x r o n s h.0 few.0 one.0 one.1 one.2)
+      one_more client x sources r read o n old new s states (told seen d b log client x r o n s h.0 few.0 one.0 one.1 one.2)
       (all_told (client + 1) sources read old new states h.1 few.1 (omega (arith, p)) (omega (arith, q)) (omega (arith, u)) (λ k m r x y s e. f (suc k) m r x y s (omega (arith, e))))
   all_told client [] (r ∷ read) old new states h few p q u f = absurd h
   all_told client (x ∷ sources) [] old new states h few p q u f = absurd h

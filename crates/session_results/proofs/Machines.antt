@@ -4,6 +4,7 @@ use Rattle.std.specs.Prelude.{slice_get, sum_by}
 use Rattle.std.specs.List.{AllByRecursion}
 use Rattle.std.proofs.lemmas.List.{length-map, length-set}
 use Rattle.std.proofs.lemmas.Option.{same_Some}
+use Rattle.pcg_base.specs.States.{SinkState}
 use Rattle.op_model.specs.declared.base.Dataset.{Dataset}
 use Rattle.op_model.specs.declared.base.Base.{Base}
 use Rattle.op_model.specs.Transcript.{Line, WholeTranscript}
@@ -47,21 +48,21 @@ asked_at [] k r e = cc
 asked_at (x ∷ xs) zero r e = ap (λ y. Some (asked_of y)) (same_Some x r e)
 asked_at (x ∷ xs) (suc k) r e = asked_at xs k r e
 
-module _ {K : Type 0} (held : K → Option (List ℕ)) (faults : K → ℕ) (d : Dataset) (b : Base) (at : ℕ) (ticks : Ticks) (schedule : List ℕ) (read : List StreamLines) (old new : AllAnswers K) (v : machine.State)
-    (p : IsPlayed held faults d b at (map asked_of read) ticks schedule old new v) where
+module _ {K : Type 0} (seen : K → SinkState) (d : Dataset) (b : Base) (at : ℕ) (ticks : Ticks) (schedule : List ℕ) (read : List StreamLines) (old new : AllAnswers K) (v : machine.State)
+    (p : IsPlayed seen d b at (map asked_of read) ticks schedule old new v) where
   states_count : length v.clients ≡ length read
   states_count =
       ap (λ (w : machine.State). length w.clients) (sym p.played.leads.2)
       ∙ (run_count d b p.played.leads.0 (machine.start d b at (map asked_of read)) ∙ (length-map (map asked_of read) machine.new_client ∙ length-map read asked_of))
 
-  facts : Facts held faults d b v.shared.log 1 read old.list.items new.list.items v.clients
+  facts : Facts seen d b v.shared.log 1 read old.list.items new.list.items v.clients
   facts k m r x y s e er ex ey es =
       let a = p.answered k s es in
       let l = p.played.lines k s es in
       let here = asked_at read k r er in
       let asks = same_Some l.0 (asked_of r) (sym l.1 ∙ here) in
       let number : suc k ≡ m = omega (arith, e) in (
-        subst (λ z. Answered held faults z y s) (same_Some a.0 x (sym a.2 ∙ ex)) (subst (λ z. Answered held faults a.0 z s) (same_Some a.1 y (sym a.3 ∙ ey)) a.4),
+        subst (λ z. Answered seen z y s) (same_Some a.0 x (sym a.2 ∙ ex)) (subst (λ z. Answered seen a.0 z s) (same_Some a.1 y (sym a.3 ∙ ey)) a.4),
         subst (λ n. WholeTranscript d b v.shared.log n (asked_of r).0 (reverse s.replies)) number
             (subst (λ ls. WholeTranscript d b v.shared.log (suc k) ls (reverse s.replies)) (l.2 ∙ ap (λ (q : List Line × Bool). q.0) asks) (p.played.transcripts k s es)),
         p.each k s y (asked_of r) es ey here,
@@ -70,9 +71,9 @@ module _ {K : Type 0} (held : K → Option (List ℕ)) (faults : K → ℕ) (d :
   pub are_done : (sources : List Source) (rows : StoredLog) (done : SessionsDone) → AreLines sources read → AllByRecursion (λ r. length r.lines.items < 2 ^ 32) read
       → length old.list.items ≡ length read → Stands rows d b v.shared.log → done.words ≡ rows.words
       → done.faults.items ≡ faults_told 1 new.list.items (map (λ r. r.end) read) → done.lines ≡ sum_by (λ x. x.lines) new.list.items → done.refused ≡ sum_by (λ x. x.refused) new.list.items
-      → AreDone held faults d b at ticks schedule sources old.list.items new.list.items done
+      → AreDone seen d b at ticks schedule sources old.list.items new.list.items done
   are_done sources rows done are few each stands words faults_so lines refused =
-      let all = all_told held faults d b v.shared.log 1 sources read old.list.items new.list.items v.clients are few each (p.count ∙ each) states_count facts in
+      let all = all_told seen d b v.shared.log 1 sources read old.list.items new.list.items v.clients are few each (p.count ∙ each) states_count facts in
       record {
         log = v.shared.log;
         image = subst (λ w. Image d b v.shared.log w) (ap (λ w. w.words) (sym words)) stands.image;

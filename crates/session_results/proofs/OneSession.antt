@@ -2,6 +2,7 @@
 use Rattle.std.proofs.Common.{◌≡◌, ℕ, ◌+◌, ◌^◌, ◌<◌, ◌≤◌, false, List, [], ◌∷◌, ◌++◌, length, map, reverse, count_by, is_some, option_to_list, Option, None, sym, ◌∙◌, ap, subst, arith, length-append}
 use Rattle.std.proofs.lemmas.List.{append-nil, length-map, length-reverse}
 use Rattle.std.proofs.lemmas.List.Sums.{count_by-le-length}
+use Rattle.pcg_base.specs.States.{SinkState}
 use Rattle.op_model.specs.declared.base.Dataset.{Dataset}
 use Rattle.op_model.specs.declared.base.Base.{Base}
 use Rattle.op_model.specs.declared.entry.Entry.{Entry}
@@ -36,7 +37,7 @@ counted_small n l = omega (arith, l)
 none_broke : (l : Option Reply) (written : List Reply) → l ≡ None → written ++ option_to_list l ≡ written
 none_broke l written e = ap (λ o. written ++ option_to_list o) e ∙ append-nil written
 
-module _ {K : Type 0} (held : K → Option (List ℕ)) (faults : K → ℕ) where
+module _ {K : Type 0} (seen : K → SinkState) where
   -- a session's streams
   abbrev pub stream_of : Source → ClientAnswers K → ClientAnswers K → Streams
   stream_of x k m =
@@ -45,10 +46,10 @@ module _ {K : Type 0} (held : K → Option (List ℕ)) (faults : K → ℕ) wher
         left' = x.left';
         read_faults = x.faults;
         read_faults' = x.faults';
-        held = held k.sink;
-        held' = held m.sink;
-        write_faults = faults k.sink;
-        write_faults' = faults m.sink;
+        held = (seen k.sink).held;
+        held' = (seen m.sink).held;
+        write_faults = (seen k.sink).faults;
+        write_faults' = (seen m.sink).faults;
       }
 
   module _ (d : Dataset) (b : Base) (log : List Entry) where
@@ -63,7 +64,7 @@ module _ {K : Type 0} (held : K → Option (List ℕ)) (faults : K → ℕ) wher
       pub refusals : new.refused ≡ count_by refuses result.written
 
     module _ (client : ℕ) (x : Source) (r : StreamLines) (old new : ClientAnswers K) (s : ClientState) (h : HasLines x.left x.left' x.faults x.faults' r.lines.items r.end) (few : length r.lines.items < 2 ^ 32)
-        (a : Answered held faults old new s) (t : WholeTranscript d b log client (asked_of r).0 (reverse s.replies)) (each : new.failed ≡ false → length s.replies ≡ length (asked_of r).0) where
+        (a : Answered seen old new s) (t : WholeTranscript d b log client (asked_of r).0 (reverse s.replies)) (each : new.failed ≡ false → length s.replies ≡ length (asked_of r).0) where
       asks : (asked_of r).0 ≡ map line_asked h.lines
       asks = texts_asked r.lines.items h.lines h.kept
 
@@ -95,7 +96,7 @@ module _ {K : Type 0} (held : K → Option (List ℕ)) (faults : K → ℕ) wher
                   each = λ e.
                       ap length (sym (none_broke a.last a.written e)) ∙ (ap length (sym a.replies) ∙ (length-reverse s.replies ∙ (each (a.broke ∙ ap (λ o. is_some o) e) ∙ asks_count)));
                   texts = a.texts;
-                  broke = subst (λ f. FaultsSo (faults old.sink) (faults new.sink) f) a.broke a.faults_so;
+                  broke = subst (λ f. FaultsSo (seen old.sink).faults (seen new.sink).faults f) a.broke a.faults_so;
                 };
             replied = a.replies;
             asked = ap (λ ls. (ls, is_faulty r.end)) (sym asks);

@@ -1,5 +1,6 @@
 -- What playing sessions comes to.
 use Rattle.std.specs.Prelude.{◌≡◌, ℕ, List, [], ◌∷◌, length, ⊤, Option}
+use Rattle.pcg_base.specs.States.{SinkState}
 use Rattle.op_model.specs.declared.base.Dataset.{Dataset}
 use Rattle.op_model.specs.declared.base.Base.{Base}
 use Rattle.op_model.specs.declared.entry.Entry.{Entry}
@@ -28,27 +29,27 @@ AreLines (x ∷ xs) (r ∷ rs) = HasLines x.left x.left' x.faults x.faults' r.li
 AreLines xs rs = ⊥
 
 -- the sessions' streams, of sources and of answers before and behind
-unfoldable pub streams_of : {K : Type 0} → (K → Option (List ℕ)) → (K → ℕ) → List Source → List (ClientAnswers K) → List (ClientAnswers K) → List Streams
-streams_of held faults (x ∷ xs) (k ∷ ks) (m ∷ ms) =
+unfoldable pub streams_of : {K : Type 0} → (K → SinkState) → List Source → List (ClientAnswers K) → List (ClientAnswers K) → List Streams
+streams_of seen (x ∷ xs) (k ∷ ks) (m ∷ ms) =
     record {
       left = x.left;
       left' = x.left';
       read_faults = x.faults;
       read_faults' = x.faults';
-      held = held k.sink;
-      held' = held m.sink;
-      write_faults = faults k.sink;
-      write_faults' = faults m.sink;
-    } ∷ streams_of held faults xs ks ms
-streams_of held faults xs ks ms = []
+      held = (seen k.sink).held;
+      held' = (seen m.sink).held;
+      write_faults = (seen k.sink).faults;
+      write_faults' = (seen m.sink).faults;
+    } ∷ streams_of seen xs ks ms
+streams_of seen xs ks ms = []
 
 -- One history stands behind the sessions: it is that of the play of the schedule, each of its entries is of one of the clients, the words are its image, and the counts are those of the sessions.
-pub record AreDone {K : Type 0} (held : K → Option (List ℕ)) (faults : K → ℕ) (d : Dataset) (b : Base) (at : ℕ) (ticks : Ticks) (schedule : List ℕ) (sources : List Source) (old new : List (ClientAnswers K)) (done : SessionsDone) : Type 0 where
+pub record AreDone {K : Type 0} (seen : K → SinkState) (d : Dataset) (b : Base) (at : ℕ) (ticks : Ticks) (schedule : List ℕ) (sources : List Source) (old new : List (ClientAnswers K)) (done : SessionsDone) : Type 0 where
   pub log : List Entry
   pub image : Image d b log done.words.words
   pub owned : EntriesOwned (length sources) log
   pub results : List SessionResult
-  pub sessions : AllSessions d b log 1 (streams_of held faults sources old new) results
+  pub sessions : AllSessions d b log 1 (streams_of seen sources old new) results
   pub count : length results ≡ length sources
   pub state : machine.State
   pub play : IsPlay d b ticks schedule (machine.start d b at (clients_of results)) state

@@ -85,8 +85,11 @@ pub fn play_sessions<K: Sink + Drop>(
     requires fresh { AllByRecursion IsFresh answers.items }
     requires numbers { AllByRecursion (λ n. (0 < n) × (n ≤ length read.items)) schedule.now }
     ensures none { IfNone result.done (result.answers.items ≡ answers.items) }
-    ensures done { (b : Base) (at : ℕ) (sources : List Source) → Image dataset b (ingested dataset b at) words.words → AreLines sources read.items
-        → IfSome result.done (AreDone K.held K.faults dataset b at clock schedule.now sources answers.items result.answers.items) }
+    ensures done { (b : Base) (at : ℕ) (sources : List Source)
+        → Image dataset b (ingested dataset b at) words.words → AreLines sources read.items
+        → IfSome result.done
+        (AreDone K.state dataset b at clock schedule.now sources answers.items
+        result.answers.items) }
     ensures count { length result.answers.items ≡ length answers.items }
 {
     let Ok(mut begun) = begin(alloc, words, dataset, clock, read) else {

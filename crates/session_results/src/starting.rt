@@ -115,7 +115,9 @@ fn make_core(
     requires clients { length read.items ≤ 64 }
     requires few { AllByRecursion (λ r. length r.lines.items < 2 ^ 32) read.items }
     ensures clock { IfOk result (λ core. core.clock ≡ clock) }
-    ensures is { IfOk result (λ core. (b : Base) (at : ℕ) → Image dataset b (ingested dataset b at) words.words → 8 * dataset.capacity ≤ length words.words + words.spare
+    ensures is { IfOk result (λ core. (b : Base) (at : ℕ)
+        → Image dataset b (ingested dataset b at) words.words
+        → 8 * dataset.capacity ≤ length words.words + words.spare
         → IsAt dataset b core (start dataset b at (map asked_of read.items))) }
 {
     let lines = all_lines(alloc, read)?;
@@ -134,7 +136,9 @@ pub(crate) fn begin(
     requires clients { length read.items ≤ 64 }
     requires few { AllByRecursion (λ r. length r.lines.items < 2 ^ 32) read.items }
     ensures clock { IfOk result (λ x. x.core.clock ≡ clock) }
-    ensures is { IfOk result (λ x. (b : Base) (at : ℕ) → Image dataset b (ingested dataset b at) words.words → 8 * dataset.capacity ≤ length words.words + words.spare
+    ensures is { IfOk result (λ x. (b : Base) (at : ℕ)
+        → Image dataset b (ingested dataset b at) words.words
+        → 8 * dataset.capacity ≤ length words.words + words.spare
         → IsAt dataset b x.core (start dataset b at (map asked_of read.items))) }
     ensures ends { IfOk result (λ x. x.ends.items ≡ map (λ r. r.end) read.items) }
     ensures none { IfOk result (λ x. x.faults.items ≡ []) }

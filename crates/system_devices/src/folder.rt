@@ -39,27 +39,13 @@ impl<'a, R: Files<File = File>> Folder<'a, R> {
 }
 
 impl<'a, R: Files<File = File>> Place for Folder<'a, R> {
-    ghost use Rattle.std.specs.Prelude.{None, []};
-    ghost use Rattle.system_devices.specs.Folders.{read_faults_of, write_faults_of, seen_in};
-    ghost use Rattle.system_devices.specs.Seen.{counts_of};
+    ghost use Rattle.system_devices.specs.Folders.{state_of};
 
     type In = Incoming<File>;
 
     type Out = Outgoing<File>;
 
-    ghost files = { λ _. None };
-
-    ghost read_faults = { λ p. read_faults_of p };
-
-    ghost write_faults = { λ p. write_faults_of p };
-
-    ghost counts = { λ p n. counts_of (seen_in p n) };
-
-    ghost opened_in = { λ p n. (seen_in p n).opened_in };
-
-    ghost opened_out = { λ p n. (seen_in p n).opened_out };
-
-    ghost left_at = { λ _ _. [] };
+    ghost state = { λ p. state_of p };
 
     /// Opens a file that is there. An error is counted, for the folder and for the name.
     fn source_of(&mut self, name: &str) -> Result<Incoming<File>, PlaceError> {

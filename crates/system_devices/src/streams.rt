@@ -76,14 +76,9 @@ impl<W: Write + Drop> Outgoing<W> {
 }
 
 impl<W: Write + Drop> Sink for Outgoing<W> {
-    ghost use Rattle.std.specs.Prelude.{None};
-    ghost use Rattle.system_devices.specs.Faults.{faults_out};
+    ghost use Rattle.system_devices.specs.Faults.{sink_state};
 
-    ghost held = { λ _. None };
-
-    ghost flushed = { λ _. None };
-
-    ghost faults = { λ k. faults_out k };
+    ghost state = { λ k. sink_state k };
 
     /// Writes again where a signal broke in. Any other error is counted, and so is a write that
     /// takes nothing of a piece that has bytes.

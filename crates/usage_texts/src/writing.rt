@@ -13,7 +13,7 @@ const SHOWN: usize = 80;
 
 /// Puts a word on a page, with a question mark for each byte that isn't plain text.
 fn put_shown<K: Sink>(page: &mut Page, out: &mut K, word: &[u8])
-    ensures { PutsSome (K.held out.old) (K.held out.new) (K.faults out.old) (K.faults out.new) page.old page.new }
+    ensures { PutsSome (K.state out.old) (K.state out.new) page.old page.new }
 {
     for at in 0..word.len().min(SHOWN) {
         let byte = word[at];
@@ -28,7 +28,7 @@ fn put_shown<K: Sink>(page: &mut Page, out: &mut K, word: &[u8])
 
 /// Puts what is wrong on a page.
 fn put_wrong<K: Sink>(page: &mut Page, out: &mut K, wrong: &Wrong<'_>)
-    ensures { PutsSome (K.held out.old) (K.held out.new) (K.faults out.old) (K.faults out.new) page.old page.new }
+    ensures { PutsSome (K.state out.old) (K.state out.new) page.old page.new }
 {
     page.put(out, wrong.front.as_bytes());
     put_shown(page, out, wrong.word);
@@ -37,7 +37,7 @@ fn put_wrong<K: Sink>(page: &mut Page, out: &mut K, wrong: &Wrong<'_>)
 
 /// Puts how the program is used on a page.
 fn put_usage<K: Sink>(page: &mut Page, out: &mut K)
-    ensures { PutsSome (K.held out.old) (K.held out.new) (K.faults out.old) (K.faults out.new) page.old page.new }
+    ensures { PutsSome (K.state out.old) (K.state out.new) page.old page.new }
 {
     for line in USAGE.as_slice() {
         page.put(out, line.as_bytes());
@@ -46,7 +46,7 @@ fn put_usage<K: Sink>(page: &mut Page, out: &mut K)
 
 /// Writes what is wrong with words that are no job, and how the program is used. It takes no memory.
 pub fn write_usage<K: Sink>(words: &[Vec<u8>], out: &mut K) -> Result<(), Failed>
-    ensures { HasCause (K.faults out.old) (K.faults out.new) result }
+    ensures { HasCause (K.state out.old).faults (K.state out.new).faults result }
 {
     let mut page = Page::new();
     put_wrong(&mut page, out, &wrong_in(words));

@@ -11,8 +11,7 @@ use Rattle.client_answers.proofs.playing.play.Goals as goal
 pub returns : goal.returns
 returns g c = record {
   played = λ d b at clients good is.
-      let held = g.K.Sink.held in
-      let faults = g.K.Sink.faults in
+      let state = g.K.Sink.state in
       let answers = c.args.answers.now in
       let old = answers.list.items in
       let clock = c.args.core.now.clock in
@@ -20,23 +19,23 @@ returns g c = record {
       let v = p.0 in
       let new = c.play.new.outlet in
       let plays = p.3 in
-      let first = started held faults old clients (c.requires.each ∙ sym is.count) c.requires.fresh in
-      let after = runs held faults d b clock old c.args.schedule.now _ plays.1 answers plays.0 (first, refl) plays.2 in
-      let all = finishes held faults d b clock old plays.3.0 plays.1 v plays.0 new after plays.3.1 in
+      let first = started state old clients (c.requires.each ∙ sym is.count) c.requires.fresh in
+      let after = runs state d b clock old c.args.schedule.now _ plays.1 answers plays.0 (first, refl) plays.2 in
+      let all = finishes state d b clock old plays.3.0 plays.1 v plays.0 new after plays.3.1 in
       let kept : IsPlay d b clock c.args.schedule.now (start d b at clients) v = record {
         mid = plays.1;
-        scheduled = steps_all (λ a. fault_sum faults a.list.items) (IsPut held faults) (IsMissed held faults) d b clock c.args.schedule.now (start d b at clients) plays.1 answers plays.0 plays.2;
+        scheduled = steps_all (λ a. fault_sum state a.list.items) (IsPut state) (IsMissed state) d b clock c.args.schedule.now (start d b at clients) plays.1 answers plays.0 plays.2;
         turns = plays.3.0;
-        rest = steps_least (λ a. fault_sum faults a.list.items) (IsPut held faults) (IsMissed held faults) d b clock plays.3.0 plays.1 v plays.0 new plays.3.1;
+        rest = steps_least (λ a. fault_sum state a.list.items) (IsPut state) (IsMissed state) d b clock plays.3.0 plays.1 v plays.0 new plays.3.1;
         ended = p.2.ended;
       } in
-      let found : IsPlayed held faults d b at clients clock c.args.schedule.now answers new v = record {
+      let found : IsPlayed state d b at clients clock c.args.schedule.now answers new v = record {
         played = p.2;
         answered = all.0;
         count = all.1;
         play = kept;
         owned = led_owned d b at clients v good p.2.leads;
-        each = each_replied d b held faults old new.list.items at clients v p.2 (led_log d b (start d b at clients) v good p.2.leads) all.0;
+        each = each_replied d b state old new.list.items at clients v p.2 (led_log d b (start d b at clients) v good p.2.leads) all.0;
         runs = plays;
       } in
       (v, p.1, found);

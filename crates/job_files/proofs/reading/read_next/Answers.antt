@@ -1,4 +1,3 @@
-use Rattle.job_files.specs.Seen.{seen}
 use Rattle.job_files.proofs.ReadLines.{reads_one}
 use Rattle.job_files.proofs.reading.read_next.Goals as goal
 
@@ -7,5 +6,5 @@ returns-in-Ok-clause-reads g c =
     let back = c.read_source-source.result.source in
     let e = c.read_source-source.ensures in
     reads_one g.P.In.Source.left g.P.In.Source.faults c.args.name.now c.args.source back c.read_source-source.result.lines c.in-Ok.lines c.args.read.now.items c.put.new.list.items
-    (seen g.P.Place.files g.P.Place.left_at g.P.Place.read_faults g.P.Place.write_faults g.P.Place.counts c.args.place.now) (seen g.P.Place.files g.P.Place.left_at g.P.Place.read_faults g.P.Place.write_faults g.P.Place.counts c.keep_request.new.place)
+    (g.P.Place.state c.args.place.now) (g.P.Place.state c.keep_request.new.place)
     c.in-Ok.is e.lines e.few e.front c.requires.fresh c.keep_request.ensures.step c.put.ensures.items

@@ -21,13 +21,13 @@ pub write_at-requires : goal.write_at-requires
 write_at-requires g c =
     let (d, b, log, i) = c.requires.image in
     let spot = c.in-Some.spot in
-    let now = subst (λ n. Written d b log n c.loop-next.roots (g.K.Sink.held c.args.out.now) (g.K.Sink.held c.loop-next.out)) c.in-Some.is (c.loop-next.invariant.written d b log i) in
+    let now = subst (λ n. Written d b log n c.loop-next.roots (g.K.Sink.state c.args.out.now).held (g.K.Sink.state c.loop-next.out).held) c.in-Some.is (c.loop-next.invariant.written d b log i) in
     record { entry = subst (λ w. InEntry (g.W.Words.words w) spot) (sym c.loop-next.invariant.same) (in_entry d b log _ i spot _ _ _ now) }
 
 pub returns-in-Err-clause-front : goal.returns-in-Err-clause-front
 returns-in-Err-clause-front g c = λ d b log i.
     let spot = c.in-Some.spot in
-    let now = subst (λ n. Written d b log n c.loop-next.roots (g.K.Sink.held c.args.out.now) (g.K.Sink.held c.loop-next.out)) c.in-Some.is (c.loop-next.invariant.written d b log i) in
+    let now = subst (λ n. Written d b log n c.loop-next.roots (g.K.Sink.state c.args.out.now).held (g.K.Sink.state c.loop-next.out).held) c.in-Some.is (c.loop-next.invariant.written d b log i) in
     let j = subst (λ w. Image d b log (g.W.Words.words w)) (sym c.loop-next.invariant.same) i in
     front_on d b log _ i spot _ _ _ now _ (c.in-Err.ensures.front d b log (entry_now d b log _ i spot _ _ _ now) j (stands_now d b log _ i spot _ _ _ now))
 
@@ -35,7 +35,7 @@ pub overflow_add-roots : goal.overflow_add-roots
 overflow_add-roots g c =
     let (d, b, log, i) = c.requires.image in
     let spot = c.in-Some.spot in
-    let now = subst (λ n. Written d b log n c.loop-next.roots (g.K.Sink.held c.args.out.now) (g.K.Sink.held c.loop-next.out)) c.in-Some.is (c.loop-next.invariant.written d b log i) in
+    let now = subst (λ n. Written d b log n c.loop-next.roots (g.K.Sink.state c.args.out.now).held (g.K.Sink.state c.loop-next.out).held) c.in-Some.is (c.loop-next.invariant.written d b log i) in
     let j = subst (λ w. Image d b log (g.W.Words.words w)) (sym c.loop-next.invariant.same) i in
     let told = c.in-Ok.ensures.ok d b log (entry_now d b log _ i spot _ _ _ now) j (stands_now d b log _ i spot _ _ _ now) in
     let few = roots_few d b log _ i spot _ _ _ now c.in-Ok.change told.1 in
@@ -45,7 +45,7 @@ pub overflow_sub-roots : goal.overflow_sub-roots
 overflow_sub-roots g c =
     let (d, b, log, i) = c.requires.image in
     let spot = c.in-Some.spot in
-    let now = subst (λ n. Written d b log n c.loop-next.roots (g.K.Sink.held c.args.out.now) (g.K.Sink.held c.loop-next.out)) c.in-Some.is (c.loop-next.invariant.written d b log i) in
+    let now = subst (λ n. Written d b log n c.loop-next.roots (g.K.Sink.state c.args.out.now).held (g.K.Sink.state c.loop-next.out).held) c.in-Some.is (c.loop-next.invariant.written d b log i) in
     let j = subst (λ w. Image d b log (g.W.Words.words w)) (sym c.loop-next.invariant.same) i in
     let told = c.in-Ok.ensures.ok d b log (entry_now d b log _ i spot _ _ _ now) j (stands_now d b log _ i spot _ _ _ now) in
     roots_left d b log _ i spot _ _ _ now c.live_roots_are_counted.ensures c.in-Ok.change told.1
@@ -54,7 +54,7 @@ pub next_entry-next-requires : goal.next_entry-next-requires
 next_entry-next-requires g c =
     let (d, b, log, i) = c.requires.image in
     let spot = c.in-Some.spot in
-    let now = subst (λ n. Written d b log n c.loop-next.roots (g.K.Sink.held c.args.out.now) (g.K.Sink.held c.loop-next.out)) c.in-Some.is (c.loop-next.invariant.written d b log i) in
+    let now = subst (λ n. Written d b log n c.loop-next.roots (g.K.Sink.state c.args.out.now).held (g.K.Sink.state c.loop-next.out).held) c.in-Some.is (c.loop-next.invariant.written d b log i) in
     let same = c.in-Ok.ensures.same ∙ c.loop-next.invariant.same in
     let there : AtEntry (g.W.Words.words c.args.w.now) spot =
     record { dataset = d; base = b; log = log; entry = entry_now d b log _ i spot _ _ _ now; image = parent_image d b log _ i; stands = stands_now d b log _ i spot _ _ _ now } in
@@ -64,7 +64,7 @@ pub loop-next-smaller : goal.loop-next-smaller
 loop-next-smaller g c =
     let (d, b, log, i) = c.requires.image in
     let spot = c.in-Some.spot in
-    let now = subst (λ n. Written d b log n c.loop-next.roots (g.K.Sink.held c.args.out.now) (g.K.Sink.held c.loop-next.out)) c.in-Some.is (c.loop-next.invariant.written d b log i) in
+    let now = subst (λ n. Written d b log n c.loop-next.roots (g.K.Sink.state c.args.out.now).held (g.K.Sink.state c.loop-next.out).held) c.in-Some.is (c.loop-next.invariant.written d b log i) in
     let same = c.in-Ok.ensures.same ∙ c.loop-next.invariant.same in
     let k = subst (λ w. ParentImage d b log (g.W.Words.words w)) (sym same) (parent_image d b log _ i) in
     let is = c.next_entry-next.ensures.is d b log (entry_now d b log _ i spot _ _ _ now) k (stands_now d b log _ i spot _ _ _ now) in
@@ -77,7 +77,7 @@ loop-next-preserved g c = record {
   still = c.in-Ok.ensures.still ∙ c.loop-next.invariant.still;
   written = λ d b log i.
       let spot = c.in-Some.spot in
-      let now = subst (λ n. Written d b log n c.loop-next.roots (g.K.Sink.held c.args.out.now) (g.K.Sink.held c.loop-next.out)) c.in-Some.is (c.loop-next.invariant.written d b log i) in
+      let now = subst (λ n. Written d b log n c.loop-next.roots (g.K.Sink.state c.args.out.now).held (g.K.Sink.state c.loop-next.out).held) c.in-Some.is (c.loop-next.invariant.written d b log i) in
       let j = subst (λ w. Image d b log (g.W.Words.words w)) (sym c.loop-next.invariant.same) i in
       let told = c.in-Ok.ensures.ok d b log (entry_now d b log _ i spot _ _ _ now) j (stands_now d b log _ i spot _ _ _ now) in
       let same = c.in-Ok.ensures.same ∙ c.loop-next.invariant.same in
@@ -93,7 +93,7 @@ length-requires g c =
 
 pub returns-clause-ok : goal.returns-clause-ok
 returns-clause-ok g c = λ d b log i.
-    let end = subst (λ n. Written d b log n c.loop-next.roots (g.K.Sink.held c.args.out.now) (g.K.Sink.held c.loop-next.out)) c.in_default.is (c.loop-next.invariant.written d b log i) in
+    let end = subst (λ n. Written d b log n c.loop-next.roots (g.K.Sink.state c.args.out.now).held (g.K.Sink.state c.loop-next.out).held) c.in_default.is (c.loop-next.invariant.written d b log i) in
     let all = ended d b log _ i _ _ _ end in
     let k = subst (λ w. ParentImage d b log (g.W.Words.words w)) (sym c.loop-next.invariant.same) (parent_image d b log _ i) in
     let same = c.length.ensures.same ∙ c.loop-next.invariant.same in (

@@ -6,5 +6,5 @@ use Rattle.made_files.proofs.making.write_stream.Goals as goal
 
 pub returns-in_default-clause-wrote : goal.returns-in_default-clause-wrote
 returns-in_default-clause-wrote g c =
-    none_wrote c.args.job.now (record { files = g.P.Place.files c.args.place.now; writes = g.P.Place.write_faults c.args.place.now; counts = g.P.Place.counts c.args.place.now })
+    none_wrote c.args.job.now (g.P.Place.state c.args.place.now)
     ((request_file (get_or c.args.job.now.stems c.args.index []), (stream_of c.args.wish.now c.args.from c.args.wish.now.requests).0) ∷ [])

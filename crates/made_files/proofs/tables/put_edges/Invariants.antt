@@ -5,4 +5,4 @@ use Rattle.made_files.proofs.tables.put_edges.Given as goal
 
 abbrev pub invariant-loop-edge : goal.invariant-loop-edge
 invariant-loop-edge g l =
-    Puts (g.K.Sink.held l.fn.out) (g.K.Sink.held l.out) (g.K.Sink.faults l.fn.out) (g.K.Sink.faults l.out) l.fn.page l.page (table_text (edges_upto l.wish l.edges l.edge-index))
+    Puts (g.K.Sink.state l.fn.out) (g.K.Sink.state l.out) l.fn.page l.page (table_text (edges_upto l.wish l.edges l.edge-index))

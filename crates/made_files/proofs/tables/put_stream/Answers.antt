@@ -25,4 +25,4 @@ returns-in_err-state-clause-front g c =
 
 pub loop-j-init : goal.loop-j-init
 unfolding stream_of
-loop-j-init g c = (puts_waiting (g.K.Sink.held c.args.out.now) (g.K.Sink.faults c.args.out.now) c.args.page.now c.args.page.now [] (sym (append-nil _)) refl, refl)
+loop-j-init g c = (puts_waiting (g.K.Sink.state c.args.out.now) c.args.page.now c.args.page.now [] (sym (append-nil _)) refl, refl)

@@ -5,5 +5,5 @@ use Rattle.made_files.proofs.tables.put_stream.Given as goal
 
 abbrev pub invariant-loop-j : goal.invariant-loop-j
 invariant-loop-j g l =
-    Puts (g.K.Sink.held l.fn.out) (g.K.Sink.held l.out) (g.K.Sink.faults l.fn.out) (g.K.Sink.faults l.out) l.fn.page l.page (stream_of l.wish l.from l.j).0
+    Puts (g.K.Sink.state l.fn.out) (g.K.Sink.state l.out) l.fn.page l.page (stream_of l.wish l.from l.j).0
     × (l.state ≡ (stream_of l.wish l.from l.j).1)

@@ -5,4 +5,4 @@ use Rattle.made_files.proofs.tables.put_supervoxels.Given as goal
 
 abbrev pub invariant-loop-k : goal.invariant-loop-k
 invariant-loop-k g l =
-    Puts (g.K.Sink.held l.fn.out) (g.K.Sink.held l.out) (g.K.Sink.faults l.fn.out) (g.K.Sink.faults l.out) l.fn.page l.page (table_text (rows_below l.wish l.k))
+    Puts (g.K.Sink.state l.fn.out) (g.K.Sink.state l.out) l.fn.page l.page (table_text (rows_below l.wish l.k))

@@ -16,7 +16,7 @@ returns-in-Err-clause-outcome g c =
       c.in-Err.ensures.wrote.0,
       c.in-Err.ensures.wrote.1,
       c.stopped.ensures.status ∙ ap status_of c.stop_of.ensures,
-      subst (λ (s : Stop). Prints (g.K.Sink.held c.args.out.now) (g.K.Sink.held c.stopped.new.out) (g.K.Sink.faults c.args.out.now) (g.K.Sink.faults c.stopped.new.out) (stop_text s)) c.stop_of.ensures c.stopped.ensures.line,
+      subst (λ (s : Stop). Prints (g.K.Sink.state c.args.out.now) (g.K.Sink.state c.stopped.new.out) (stop_text s)) c.stop_of.ensures c.stopped.ensures.line,
     )
 
 pub returns-in-Err-clause-flushed : goal.returns-in-Err-clause-flushed

@@ -1,6 +1,7 @@
 use Rattle.std.proofs.Common.{◌≡◌, ◌∙◌, ℕ, List, Option, map, refl, subst, sym, rules}
+use Rattle.pcg_base.specs.States.{PlaceState}
 use Rattle.pcg_base.specs.declared.clock.Ticks.{Ticks}
-use Rattle.job_files.specs.Seen.{EachStep, KeepsIn, KeepsOut, Seen, seen}
+use Rattle.job_files.specs.Places.{EachStep, KeepsIn, KeepsOut}
 use Rattle.job_files.specs.Clients.{kept_of}
 use Rattle.session_results.specs.declared.playing.SessionsDone.{SessionsDone}
 use Rattle.session_results.specs.Ended.{AreDone}
@@ -11,9 +12,9 @@ use Rattle.rehearsal.proofs.clients.serve_all.Goals as goal
 
 pub returns-clause-done : goal.returns-clause-done
 returns-clause-done g c = λ b at image.
-    let S : Seen = seen g.P.Place.files g.P.Place.left_at g.P.Place.read_faults g.P.Place.write_faults g.P.Place.counts c.args.place.now in
-    let T : Seen = seen g.P.Place.files g.P.Place.left_at g.P.Place.read_faults g.P.Place.write_faults g.P.Place.counts c.read_requests.new.place in
-    let U : Seen = seen g.P.Place.files g.P.Place.left_at g.P.Place.read_faults g.P.Place.write_faults g.P.Place.counts c.keep_answers-2.new.place in
+    let S : PlaceState = g.P.Place.state c.args.place.now in
+    let T : PlaceState = g.P.Place.state c.read_requests.new.place in
+    let U : PlaceState = g.P.Place.state c.keep_answers-2.new.place in
     let rs = c.args.files.now.requests in
     let ns = c.args.files.now.answers in
     let e : c.as_slice.result.now ≡ rs = search rules in
@@ -30,20 +31,20 @@ returns-clause-done g c = λ b at image.
       kept_in = subst (λ names. EachStep KeepsIn names read.0 S T) e read.2;
       ended = c.play_sessions-end.result.answers.items;
       count = c.play_sessions-end.ensures.count;
-      kept_out = subst (λ names. EachStep KeepsOut names (map (kept_of g.P.Out.Sink.held g.P.Out.Sink.faults) c.play_sessions-end.result.answers.items) T U) f c.keep_answers-2.ensures.each;
-      done_so = subst (λ s. AreDone g.P.Out.Sink.held g.P.Out.Sink.faults c.args.input.dataset b at c.args.clock s (sources_of lefts read.0) c.args.opened.answers.items c.play_sessions-end.result.answers.items x) h d;
+      kept_out = subst (λ names. EachStep KeepsOut names (map (kept_of g.P.Out.Sink.state) c.play_sessions-end.result.answers.items) T U) f c.keep_answers-2.ensures.each;
+      done_so = subst (λ s. AreDone g.P.Out.Sink.state c.args.input.dataset b at c.args.clock s (sources_of lefts read.0) c.args.opened.answers.items c.play_sessions-end.result.answers.items x) h d;
     }) done
 
 pub returns-in-Err-clause-none : goal.returns-in-Err-clause-none
 returns-in-Err-clause-none g c =
-    let T : Seen = seen g.P.Place.files g.P.Place.left_at g.P.Place.read_faults g.P.Place.write_faults g.P.Place.counts c.read_requests.new.place in
-    let U : Seen = seen g.P.Place.files g.P.Place.left_at g.P.Place.read_faults g.P.Place.write_faults g.P.Place.counts c.keep_answers.new.place in
-    unplayed g.P.In.Source.left g.P.Out.Sink.held g.P.Out.Sink.faults c.args.files.now.requests c.args.files.now.answers c.as_slice.result.now c.as_slice-in-Err.result.now c.args.opened.sources.items c.args.opened.answers.items c.args.opened.answers.items
-    (seen g.P.Place.files g.P.Place.left_at g.P.Place.read_faults g.P.Place.write_faults g.P.Place.counts c.args.place.now) T U (search rules) (search rules) refl c.in-Err.ensures.begun c.keep_answers.ensures.each
+    let T : PlaceState = g.P.Place.state c.read_requests.new.place in
+    let U : PlaceState = g.P.Place.state c.keep_answers.new.place in
+    unplayed g.P.In.Source.left g.P.Out.Sink.state c.args.files.now.requests c.args.files.now.answers c.as_slice.result.now c.as_slice-in-Err.result.now c.args.opened.sources.items c.args.opened.answers.items c.args.opened.answers.items
+    (g.P.Place.state c.args.place.now) T U (search rules) (search rules) refl c.in-Err.ensures.begun c.keep_answers.ensures.each
 
 pub returns-clause-none : goal.returns-clause-none
 returns-clause-none g c =
-    let T : Seen = seen g.P.Place.files g.P.Place.left_at g.P.Place.read_faults g.P.Place.write_faults g.P.Place.counts c.read_requests.new.place in
-    let U : Seen = seen g.P.Place.files g.P.Place.left_at g.P.Place.read_faults g.P.Place.write_faults g.P.Place.counts c.keep_answers-2.new.place in
-    if_none_then c.play_sessions-end.result.done (λ same. unread g.P.In.Source.left g.P.Out.Sink.held g.P.Out.Sink.faults c.args.files.now.requests c.args.files.now.answers c.as_slice.result.now c.as_slice-3.result.now c.args.opened.sources.items c.in-Ok.read.items c.args.opened.answers.items c.play_sessions-end.result.answers.items
-    (seen g.P.Place.files g.P.Place.left_at g.P.Place.read_faults g.P.Place.write_faults g.P.Place.counts c.args.place.now) T U (search rules) (search rules) same c.in-Ok.ensures.read c.keep_answers-2.ensures.each) c.play_sessions-end.ensures.none
+    let T : PlaceState = g.P.Place.state c.read_requests.new.place in
+    let U : PlaceState = g.P.Place.state c.keep_answers-2.new.place in
+    if_none_then c.play_sessions-end.result.done (λ same. unread g.P.In.Source.left g.P.Out.Sink.state c.args.files.now.requests c.args.files.now.answers c.as_slice.result.now c.as_slice-3.result.now c.args.opened.sources.items c.in-Ok.read.items c.args.opened.answers.items c.play_sessions-end.result.answers.items
+    (g.P.Place.state c.args.place.now) T U (search rules) (search rules) same c.in-Ok.ensures.read c.keep_answers-2.ensures.each) c.play_sessions-end.ensures.none

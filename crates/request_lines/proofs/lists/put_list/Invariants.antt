@@ -6,5 +6,5 @@ use Rattle.request_lines.proofs.lists.put_list.Given as goal
 
 abbrev pub invariant-loop-i : goal.invariant-loop-i
 invariant-loop-i g l =
-    (done : List ℕ) × Puts (g.K.Sink.held l.fn.out) (g.K.Sink.held l.out) (g.K.Sink.faults l.fn.out) (g.K.Sink.faults l.out) l.fn.page l.page done
+    (done : List ℕ) × Puts (g.K.Sink.state l.fn.out) (g.K.Sink.state l.out) l.fn.page l.page done
     × (array (map g.T.Written.text l.list) ≡ done ++ continuing l.i (map g.T.Written.text (drop l.i l.list)) (codes "]"))

@@ -57,16 +57,15 @@ told-done-requires-clause-room g c =
 
 pub returns-clause-done : goal.returns-clause-done
 returns-clause-done g c = λ b at sources image are.
-    let held = g.K.Sink.held in
-    let faults = g.K.Sink.faults in
+    let seen = g.K.Sink.state in
     let read = c.args.read.items in
     let old : AllAnswers g.row.K.Denot = record { list = c.args.answers } in
     let start = c.in-Ok.ensures.is b at image c.requires.room in
     let p = c.play.ensures.played c.args.dataset b at (map asked_of read) start.0 start.1 in
-    let played = subst (λ t. IsPlayed held faults c.args.dataset b at (map asked_of read) t c.args.schedule.now old c.play.new.answers p.0) c.in-Ok.ensures.clock p.2 in
+    let played = subst (λ t. IsPlayed seen c.args.dataset b at (map asked_of read) t c.args.schedule.now old c.play.new.answers p.0) c.in-Ok.ensures.clock p.2 in
     let list = c.as_slice.ensures.value in
     let done = c.told-done.ensures in
-    are_done held faults c.args.dataset b at c.args.clock c.args.schedule.now read old c.play.new.answers p.0 played sources c.play.new.core.rows c.told-done.result are c.requires.few c.requires.each p.1.rows
+    are_done seen c.args.dataset b at c.args.clock c.args.schedule.now read old c.play.new.answers p.0 played sources c.play.new.core.rows c.told-done.result are c.requires.few c.requires.each p.1.rows
     done.words
     (done.faults ∙ (ap (λ xs. faults_told 1 xs c.in-Ok.begun.ends.items) list ∙ ap (λ es. faults_told 1 c.play.new.answers.list.items es) c.in-Ok.ensures.ends))
     (done.lines ∙ ap (λ xs. sum_by (λ x. x.lines) xs) list)

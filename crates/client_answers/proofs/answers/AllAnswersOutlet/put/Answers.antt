@@ -18,7 +18,7 @@ pub returns-clause-ok : goal.returns-clause-ok
 returns-clause-ok g c =
     let new : AllAnswers g.row.K.Denot = record { list = with_item c.args.self.now.list c.saturating_sub-place.result c.write.new.answers } in
     on_ok c.write.result
-    (λ w. at_client (IsWritten g.K.Sink.held g.K.Sink.faults) c.args.self.now new c.args.client c.saturating_sub-place.result c.args.reply.now c.index_mut.result.now c.write.new.answers _
+    (λ w. at_client (IsWritten g.K.Sink.state) c.args.self.now new c.args.client c.saturating_sub-place.result c.args.reply.now c.index_mut.result.now c.write.new.answers _
     c.saturating_sub-place.ensures (search rules) c.index_mut.ensures.value w refl)
     c.write.ensures.ok
 
@@ -26,11 +26,11 @@ pub returns-clause-err : goal.returns-clause-err
 returns-clause-err g c =
     let new : AllAnswers g.row.K.Denot = record { list = with_item c.args.self.now.list c.saturating_sub-place.result c.write.new.answers } in
     on_err c.write.result
-    (λ w. at_client (IsBroken g.K.Sink.held g.K.Sink.faults) c.args.self.now new c.args.client c.saturating_sub-place.result c.args.reply.now c.index_mut.result.now c.write.new.answers _
+    (λ w. at_client (IsBroken g.K.Sink.state) c.args.self.now new c.args.client c.saturating_sub-place.result c.args.reply.now c.index_mut.result.now c.write.new.answers _
     c.saturating_sub-place.ensures (search rules) c.index_mut.ensures.value w refl)
     c.write.ensures.err
 
 pub returns-clause-cause : goal.returns-clause-cause
 returns-clause-cause g c =
-    cause_all g.K.Sink.faults c.args.self.now.list.items c.saturating_sub-place.result c.index_mut.result.now c.write.new.answers _ c.write.result
+    cause_all g.K.Sink.state c.args.self.now.list.items c.saturating_sub-place.result c.index_mut.result.now c.write.new.answers _ c.write.result
     (search rules) c.index_mut.ensures.value c.write.ensures.cause

@@ -1,20 +1,8 @@
--- A place as clauses see it, and what calls do to it.
+-- What calls do to a place, as clauses see it.
 use Rattle.std.specs.Prelude.{◌≡◌, ◌≢◌, ◌≤◌, ◌⊎◌, ⊤, ℕ, List, [], ◌∷◌, ◌++◌, Option, Some, None}
 use Rattle.std.specs.FinMap.{get}
 use Rattle.pcg_base.specs.Causes.{Rose, added}
 use Rattle.pcg_base.specs.Told.{Counts, Files, KeepsFiles, PutsHeld, TellsTo}
-
--- the bytes at its names where it tells them, what the sources that were kept back had left, and its counts
-pub record Seen : Type 0 where
-  pub files : Option Files
-  pub left : List ℕ → List ℕ
-  pub reads : ℕ
-  pub writes : ℕ
-  pub counts : List ℕ → Counts
-
--- a place by what its trait tells of it
-abbrev pub seen : {P : Type 0} → (P → Option Files) → (P → List ℕ → List ℕ) → (P → ℕ) → (P → ℕ) → (P → List ℕ → Counts) → P → Seen
-seen files left reads writes counts p = record { files = files p; left = left p; reads = reads p; writes = writes p; counts = counts p }
 
 -- none of a name's counts fell
 pub record IsLaterAt (old new : Counts) : Type 0 where
@@ -24,13 +12,13 @@ pub record IsLaterAt (old new : Counts) : Type 0 where
   pub sink_faults : old.sink_faults ≤ new.sink_faults
 
 -- none of a place's counts fell
-pub record IsLater (old new : Seen) : Type 0 where
+pub record IsLater (old new : PlaceState) : Type 0 where
   pub reads : old.reads ≤ new.reads
   pub writes : old.writes ≤ new.writes
   pub counts : (name : List ℕ) → IsLaterAt (old.counts name) (new.counts name)
 
 -- nothing changed that clauses see
-pub record IsSame (old new : Seen) : Type 0 where
+pub record IsSame (old new : PlaceState) : Type 0 where
   pub files : KeepsFiles old.files new.files
   pub left : (name : List ℕ) → new.left name ≡ old.left name
   pub reads : new.reads ≡ old.reads
@@ -38,22 +26,22 @@ pub record IsSame (old new : Seen) : Type 0 where
   pub counts : (name : List ℕ) → new.counts name ≡ old.counts name
 
 -- the count of read faults rose, and beside this name that of failed openings for reading or of the faults of its sources
-pub record ReadRose (old new : Seen) (name : List ℕ) : Type 0 where
+pub record ReadRose (old new : PlaceState) (name : List ℕ) : Type 0 where
   pub place : Rose old.reads new.reads
   pub here : Rose (old.counts name).source_openings (new.counts name).source_openings ⊎ Rose (old.counts name).source_faults (new.counts name).source_faults
 
 -- the count of read faults rose, and beside this name that of the faults of its sources
-pub record ReadBroke (old new : Seen) (name : List ℕ) : Type 0 where
+pub record ReadBroke (old new : PlaceState) (name : List ℕ) : Type 0 where
   pub place : Rose old.reads new.reads
   pub here : Rose (old.counts name).source_faults (new.counts name).source_faults
 
 -- the count of write faults rose, and beside this name that of the faults of its sinks
-pub record WriteBroke (old new : Seen) (name : List ℕ) : Type 0 where
+pub record WriteBroke (old new : PlaceState) (name : List ℕ) : Type 0 where
   pub place : Rose old.writes new.writes
   pub here : Rose (old.counts name).sink_faults (new.counts name).sink_faults
 
 -- the count of write faults rose, and beside this name that of failed openings for writing
-pub record WriteRose (old new : Seen) (name : List ℕ) : Type 0 where
+pub record WriteRose (old new : PlaceState) (name : List ℕ) : Type 0 where
   pub place : Rose old.writes new.writes
   pub here : Rose (old.counts name).sink_openings (new.counts name).sink_openings
 
@@ -68,7 +56,7 @@ WasBegun None left name = ⊤
 WasBegun (Some m) left name = (front : List ℕ) × (get m name ≡ Some (front ++ left name))
 
 -- a source that has this left and failed so often was kept back at a name
-pub record KeepsIn (name : List ℕ) (source : Option (List ℕ) × ℕ) (old new : Seen) : Type 0 where
+pub record KeepsIn (name : List ℕ) (source : Option (List ℕ) × ℕ) (old new : PlaceState) : Type 0 where
   pub files : KeepsFiles old.files new.files
   pub later : old.reads ≤ new.reads
   pub reads : new.reads ≡ added old.reads source.1
@@ -80,7 +68,7 @@ pub record KeepsIn (name : List ℕ) (source : Option (List ℕ) × ℕ) (old ne
   pub only_left : (n : List ℕ) → n ≢ name → new.left n ≡ old.left n
 
 -- a sink that holds this and failed so often was kept back at a name
-pub record KeepsOut (name : List ℕ) (sink : Option (List ℕ) × ℕ) (old new : Seen) : Type 0 where
+pub record KeepsOut (name : List ℕ) (sink : Option (List ℕ) × ℕ) (old new : PlaceState) : Type 0 where
   pub files : PutsHeld old.files new.files name sink.0
   pub reads : new.reads ≡ old.reads
   pub later : old.writes ≤ new.writes
@@ -91,7 +79,7 @@ pub record KeepsOut (name : List ℕ) (sink : Option (List ℕ) × ℕ) (old new
   pub left : (n : List ℕ) → new.left n ≡ old.left n
 
 -- one such step for each of these items, at the first of these names and so on
-abbrev pub EachStep : {A : Type 0} → (List ℕ → A → Seen → Seen → Type 0) → List (List ℕ) → List A → Seen → Seen → Type 0
+abbrev pub EachStep : {A : Type 0} → (List ℕ → A → PlaceState → PlaceState → Type 0) → List (List ℕ) → List A → PlaceState → PlaceState → Type 0
 EachStep step names [] old new = new ≡ old
 EachStep step [] (x ∷ xs) old new = ⊥
-EachStep step (name ∷ names) (x ∷ xs) old new = (mid : Seen) × step name x old mid × EachStep step names xs mid new
+EachStep step (name ∷ names) (x ∷ xs) old new = (mid : PlaceState) × step name x old mid × EachStep step names xs mid new
