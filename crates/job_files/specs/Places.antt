@@ -2,7 +2,8 @@
 use Rattle.std.specs.Prelude.{◌≡◌, ◌≢◌, ◌≤◌, ◌⊎◌, ⊤, ℕ, List, [], ◌∷◌, ◌++◌, Option, Some, None}
 use Rattle.std.specs.FinMap.{get}
 use Rattle.pcg_base.specs.Causes.{Rose, added}
-use Rattle.pcg_base.specs.Told.{Counts, Files, KeepsFiles, PutsHeld, TellsTo}
+use Rattle.pcg_base.specs.States.{PlaceState}
+use Rattle.pcg_base.specs.Told.{Counts, Files, KeepsFiles, PutsHeld, TellsTo, sinks_failed, sources_failed}
 
 -- none of a name's counts fell
 pub record IsLaterAt (old new : Counts) : Type 0 where
@@ -62,7 +63,7 @@ pub record KeepsIn (name : List ℕ) (source : Option (List ℕ) × ℕ) (old ne
   pub reads : new.reads ≡ added old.reads source.1
   pub writes : new.writes ≡ old.writes
   pub later_here : (old.counts name).source_faults ≤ (new.counts name).source_faults
-  pub here : new.counts name ≡ record (old.counts name) { source_faults = added (old.counts name).source_faults source.1 }
+  pub here : new.counts name ≡ sources_failed (old.counts name) source.1
   pub others : (n : List ℕ) → n ≢ name → new.counts n ≡ old.counts n
   pub left : TellsTo old.files source.0 (new.left name)
   pub only_left : (n : List ℕ) → n ≢ name → new.left n ≡ old.left n
@@ -74,7 +75,7 @@ pub record KeepsOut (name : List ℕ) (sink : Option (List ℕ) × ℕ) (old new
   pub later : old.writes ≤ new.writes
   pub writes : new.writes ≡ added old.writes sink.1
   pub later_here : (old.counts name).sink_faults ≤ (new.counts name).sink_faults
-  pub here : new.counts name ≡ record (old.counts name) { sink_faults = added (old.counts name).sink_faults sink.1 }
+  pub here : new.counts name ≡ sinks_failed (old.counts name) sink.1
   pub others : (n : List ℕ) → n ≢ name → new.counts n ≡ old.counts n
   pub left : (n : List ℕ) → new.left n ≡ old.left n
 

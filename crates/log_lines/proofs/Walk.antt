@@ -10,7 +10,6 @@ use Rattle.op_model.specs.Legal.{Legal}
 use Rattle.op_model.specs.Operations.{entry_at}
 use Rattle.op_model.specs.Records.{records}
 use Rattle.op_model.proofs.HistoryLemmas.{legal_prefix}
-use Rattle.pcg_base.specs.States.{SinkState}
 use Rattle.pcg_base.specs.Told.{AppendsFront}
 use Rattle.pcg_base.proofs.Appending.{appends_more}
 use Rattle.record_rows.specs.Readings.{ForEachLog, Image}
@@ -37,15 +36,15 @@ IsAt d b log None older = log ≡ older
 IsAt d b log (Some p) older = (newer : List Entry) × (e : Entry) × (log ≡ newer ++ e ∷ older) × HoldsEntry d b log p e
 
 -- the oldest entries are written, and their live roots counted
-pub record Written (d : Dataset) (b : Base) (log : List Entry) (next : Option ℕ) (roots : ℕ) (out out' : SinkState) : Type 0 where
+pub record Written (d : Dataset) (b : Base) (log : List Entry) (next : Option ℕ) (roots : ℕ) (held held' : Option (List ℕ)) : Type 0 where
   pub older : List Entry
   pub at : IsAt d b log next older
   pub counts : roots ≡ length (live_roots older)
-  pub text : Appends out.held out'.held (log_text older)
+  pub text : Appends held held' (log_text older)
 
 -- so it is for each log whose image the words are
 abbrev pub AllWritten : List ℕ → Option ℕ → ℕ → Option (List ℕ) → Option (List ℕ) → Type 0
-AllWritten words next roots out out' = ForEachLog Image words (λ d b log. Written d b log next roots out out')
+AllWritten words next roots held held' = ForEachLog Image words (λ d b log. Written d b log next roots held held')
 
 -- lists that end alike, as to their length, end with the same
 same_back : (xs ys zs ws : List Entry) → xs ++ zs ≡ ys ++ ws → length zs ≡ length ws → zs ≡ ws
@@ -77,8 +76,8 @@ module _ (d : Dataset) (b : Base) (log : List Entry) (words : List ℕ) (i : Ima
           absurd (omega (arith, m, n))
 
   -- at the end all is written
-  pub ended : (roots : ℕ) (out out' : SinkState) → Written d b log None roots out out' → Appends out.held out'.held (log_text log) × (roots ≡ length (live_roots log))
-  ended roots out out' s = (subst (λ l. Appends out.held out'.held (log_text l)) (sym s.at) s.text, s.counts ∙ ap (λ l. length (live_roots l)) (sym s.at))
+  pub ended : (roots : ℕ) (held held' : Option (List ℕ)) → Written d b log None roots held held' → Appends held held' (log_text log) × (roots ≡ length (live_roots log))
+  ended roots held held' s = (subst (λ l. Appends held held' (log_text l)) (sym s.at) s.text, s.counts ∙ ap (λ l. length (live_roots l)) (sym s.at))
 
   module _ (p roots : ℕ) (held held1 : Option (List ℕ)) (s : Written d b log (Some p) roots held held1) where
     -- the entry that the walk is at

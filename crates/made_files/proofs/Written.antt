@@ -42,23 +42,23 @@ front_longer (Some xs) None front rest text e h = absurd h
 front_longer (Some xs) (Some ys) front rest text e h =
     (h.0, h.1 ++ rest, e ∙ ap (λ t. t ++ rest) h.2 ∙ append_assoc h.0 h.1 rest, h.3)
 
-pub front_put : {a b : Option (List ℕ)} {i j : ℕ} {p q : Page} (text : List ℕ) → waiting p ≡ [] → p.failed ≡ false → PutsFront a b i j p q text → AppendsFront a b text
+pub front_put : {a b : SinkState} {p q : Page} (text : List ℕ) → waiting p ≡ [] → p.failed ≡ false → PutsFront a b p q text → AppendsFront a.held b.held text
 front_put {a = a} {b = b} {p = p} {q = q} text none fresh h = go q.failed refl
   where
     same : waiting p ++ h.0 ≡ h.0
     same = ap (λ w. w ++ h.0) none
 
-    go : (f : Bool) → q.failed ≡ f → AppendsFront a b text
-    go false e = front_sent a b h.0 h.1 text (waiting q) h.2 (subst (λ t. Sends a b t (waiting q)) same (h.3.goes e))
-    go true e = front_longer a b h.0 h.1 text h.2 (subst (λ t. AppendsFront a b t) same ((h.3.fails fresh e).0))
+    go : (f : Bool) → q.failed ≡ f → AppendsFront a.held b.held text
+    go false e = front_sent a.held b.held h.0 h.1 text (waiting q) h.2 (subst (λ t. Sends a.held b.held t (waiting q)) same (h.3.goes e))
+    go true e = front_longer a.held b.held h.0 h.1 text h.2 (subst (λ t. AppendsFront a.held b.held t) same ((h.3.fails fresh e).0))
 
 -- ---- one file
 
-pub file_whole : (f0 f1 f2 : Option Files) (out out' : SinkState) (name text : List ℕ) → PutsFile f0 f1 name [] → TellsTo f0 held [] → PutsHeld f1 f2 name held' → Appends out.held out'.held text
+pub file_whole : (f0 f1 f2 : Option Files) (held held' : Option (List ℕ)) (name text : List ℕ) → PutsFile f0 f1 name [] → TellsTo f0 held [] → PutsHeld f1 f2 name held' → Appends held held' text
     → PutsAll f0 f2 ((name, text) ∷ [])
 unfolding put_all
-file_whole None f1 f2 out out' name text made told kept h = tt
-file_whole (Some m) f1 f2 out out' name text made told kept h =
+file_whole None f1 f2 held held' name text made told kept h = tt
+file_whole (Some m) f1 f2 held held' name text made told kept h =
     let H : Option (List ℕ) → Type 0 = λ x. Appends x held' text in
     go held' (subst H told h) kept
   where
@@ -68,11 +68,11 @@ file_whole (Some m) f1 f2 out out' name text made told kept h =
         let P : Option Files → Type 0 = λ f. PutsHeld f f2 name (Some ys) in
         subst P made k ∙ ap (λ z. Some z) (put_twice m name [] ys ∙ ap (insert m name) h)
 
-pub file_part : (f0 f1 f2 : Option Files) (out out' : SinkState) (name text : List ℕ) → PutsFile f0 f1 name [] → TellsTo f0 held [] → PutsHeld f1 f2 name held' → AppendsFront out.held out'.held text
+pub file_part : (f0 f1 f2 : Option Files) (held held' : Option (List ℕ)) (name text : List ℕ) → PutsFile f0 f1 name [] → TellsTo f0 held [] → PutsHeld f1 f2 name held' → AppendsFront held held' text
     → PutsSome f0 f2 ((name, text) ∷ [])
 unfolding put_all
-file_part None f1 f2 out out' name text made told kept h = ([], (name, text) ∷ [], refl, inl tt)
-file_part (Some m) f1 f2 out out' name text made told kept h =
+file_part None f1 f2 held held' name text made told kept h = ([], (name, text) ∷ [], refl, inl tt)
+file_part (Some m) f1 f2 held held' name text made told kept h =
     let H : Option (List ℕ) → Type 0 = λ x. AppendsFront x held' text in
     go held' (subst H told h) kept
   where

@@ -1,7 +1,7 @@
 -- The files that a job of `make` asks for.
 use Rattle.std.specs.Prelude.{◌≡◌, ◌≤◌, ◌-◌, ⊤, ℕ, List, [], ◌∷◌, ◌++◌, length, get_or, Option, Result, Ok, Err}
 use Rattle.pcg_base.specs.Causes.{Rose}
-use Rattle.pcg_base.specs.Told.{Counts, Files}
+use Rattle.pcg_base.specs.States.{PlaceState}
 use Rattle.pcg_words.specs.Job.{request_file}
 use Rattle.pcg_words.specs.declared.job.MakeJob.{MakeJob}
 use Rattle.made_input.specs.Texts.{Text, input_of}

@@ -1,5 +1,5 @@
 -- Why files weren't made, and what is told of it.
-use Rattle.std.proofs.Common.{◌≡◌, ◌∙◌, ℕ, List, Option, refl, sym, ap, subst, arith, inl, inr}
+use Rattle.std.proofs.Common.{◌≡◌, ◌∙◌, ℕ, refl, ap, arith, inl, inr}
 use Rattle.std.specs.Prelude.{◌⊎◌}
 use Rattle.pcg_base.specs.States.{PlaceState}
 use Rattle.pcg_base.specs.Causes.{Rose}
@@ -11,9 +11,7 @@ use Rattle.made_files.specs.declared.stops.MakeStop.TheVariants as makes
 use Rattle.call_lines.specs.declared.stops.Stop.{Stop}
 use Rattle.call_lines.specs.declared.stops.Stop.TheVariants as stops
 use Rattle.pcg_serve.specs.Making.{stop_of}
-use Rattle.call_lines.specs.Printing.{Prints}
 use Rattle.call_lines.specs.Statuses.{status_of}
-use Rattle.call_lines.specs.Texts.{stop_text}
 
 pub stop_known : (stop : MakeStop) → (status_of (stop_of stop) ≡ 4) ⊎ (status_of (stop_of stop) ≡ 5)
 stop_known (makes.Failed made.Supervoxels) = inl refl

@@ -1,9 +1,9 @@
 -- What a call's outcome tells, by the mode of its job.
-use Rattle.std.proofs.Common.{◌≡◌, ℕ, List, Option, Some, None, refl, sym, ◌∙◌, ap, subst, arith, inl, inr}
+use Rattle.std.proofs.Common.{◌≡◌, ℕ, Option, Some, None, sym, ◌∙◌, subst, arith, inl, inr}
 use Rattle.std.specs.Prelude.{◌⊎◌}
 use Rattle.pcg_base.specs.Causes.{Rose}
 use Rattle.pcg_base.specs.States.{PlaceState, SinkState}
-use Rattle.pcg_base.specs.Told.{Files, KeepsFiles}
+use Rattle.pcg_base.specs.Told.{Files}
 use Rattle.pcg_words.specs.declared.job.Job.{Job}
 use Rattle.pcg_words.specs.declared.job.Job.TheVariants as job
 use Rattle.pcg_words.specs.declared.job.MakeJob.{MakeJob}
@@ -16,7 +16,7 @@ use Rattle.rehearsal.specs.Outcomes.{Outcome, answers_of}
 use Rattle.rehearsal.proofs.Dues.{due}
 use Rattle.rehearsal.proofs.Exact.{complete, is_done, is_faultless, tells}
 use Rattle.pcg_serve.specs.Calls.{IsFaultless, IsJobDone, IsJobDue, IsJobFine, JobOutcome, JobTells, KeepsJobOthers, WordsLost}
-use Rattle.pcg_serve.specs.Making.{IsMade, MakeOutcome, stop_of}
+use Rattle.pcg_serve.specs.Making.{IsMade, MakeOutcome}
 use Rattle.pcg_serve.proofs.Made.{stop_known, stop_rose}
 
 not_both : {A : Type 0} (n a b : ℕ) → n ≡ a → n ≡ b → (a ≡ b → ⊥) → A

@@ -1,8 +1,8 @@
 //! Tables and requests that are made from a number.
 
-ghost use Rattle.std.specs.Prelude.{◌≡◌, ◌≤◌, ◌⊎◌, ◌*◌, OnErr, OnOk, length};
+ghost use Rattle.std.specs.Prelude.{◌≡◌, ◌≤◌, ◌*◌, OnErr, OnOk, length};
 ghost use Rattle.std.specs.Io.KnownBytes.{Appends};
-ghost use Rattle.pcg_base.specs.Causes.{HasCause, Rose};
+ghost use Rattle.pcg_base.specs.Causes.{HasCause};
 ghost use Rattle.pcg_base.specs.Told.{AppendsFront, IsFlushed};
 ghost use Rattle.pcg_words.specs.Job.{IsMake};
 ghost use Rattle.made_files.specs.Files.{files_of};
@@ -11,8 +11,7 @@ ghost use Rattle.made_input.specs.Texts.{input_of};
 ghost use Rattle.made_files.specs.Files.{wish_of};
 ghost use Rattle.request_lines.specs.Sent.{Puts};
 ghost use Rattle.pcg_serve.specs.Making.{MadePrinted, MakeOutcome, made_text, stop_of};
-ghost use Rattle.call_lines.specs.Printing.{Prints};
-ghost use Rattle.call_lines.specs.Texts.{made_line, stop_text};
+ghost use Rattle.call_lines.specs.Texts.{made_line};
 
 use call_lines::{FileName, Stop};
 use made_files::{MadeFile, MakeStop, make_files};

@@ -1,10 +1,10 @@
 -- The names of a job's files are apart.
-use Rattle.std.proofs.Common.{◌≡◌, ℕ, zero, suc, Bool, true, false, not, ◌&&◌, ◌||◌, List, [], ◌∷◌, ◌++◌, map, take, Option, Some, None, bytes_eq, refl, sym, ◌∙◌, ap, subst, IsTrue}
+use Rattle.std.proofs.Common.{◌≡◌, ℕ, zero, suc, Bool, true, false, not, ◌&&◌, ◌||◌, List, [], ◌∷◌, ◌++◌, map, take, Some, bytes_eq, refl, sym, subst}
 use Rattle.std.specs.Prelude.{option_to_list}
 use Rattle.std.specs.List.{list_any}
 use Rattle.std.proofs.lemmas.Bool.{false≢true}
 use Rattle.pcg_words.specs.declared.job.RehearseJob.{RehearseJob}
-use Rattle.pcg_words.specs.Job.{IsRehearse, all_differ, answer_file, client_files, file_names, rehearse_files, request_file}
+use Rattle.pcg_words.specs.Job.{IsRehearse, all_differ, answer_file, client_files, file_names, request_file}
 
 and_left : (x y : Bool) → (x && y) ≡ true → x ≡ true
 and_left true y e = refl

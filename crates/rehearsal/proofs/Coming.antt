@@ -1,14 +1,12 @@
 -- A call that came past its sessions.
-use Rattle.std.proofs.Common.{◌≡◌, ℕ, ◌-◌, List, ◌++◌, length, map, Option, Some, None, bytes_eq, false, refl, sym, ◌∙◌, ap, subst, inl, inr}
-use Rattle.std.specs.Prelude.{◌⊎◌}
+use Rattle.std.proofs.Common.{◌≡◌, ℕ, ◌-◌, List, ◌++◌, length, bytes_eq, false, ◌∙◌, ap, inr}
 use Rattle.std.specs.List.{list_any}
 use Rattle.op_model.specs.Records.{records}
 use Rattle.histories.specs.Histories.{live_roots}
 use Rattle.histories.proofs.EachLog.{ids_stay, leaves_are_joined, roots_are_joined}
 use Rattle.pcg_base.specs.States.{PlaceState, SinkState}
-use Rattle.pcg_base.specs.Told.{KeepsFiles}
 use Rattle.pcg_words.specs.declared.job.RehearseJob.{RehearseJob}
-use Rattle.pcg_words.specs.Job.{IsRehearse, request_file}
+use Rattle.pcg_words.specs.Job.{IsRehearse}
 use Rattle.call_lines.specs.Texts.{summary_line}
 use Rattle.call_lines.specs.declared.stops.Stop.{Stop}
 use Rattle.log_lines.specs.LogTexts.{log_text}
@@ -16,7 +14,7 @@ use Rattle.job_tables.specs.declared.tables.JobBase.{JobBase}
 use Rattle.job_tables.specs.Inputs.{IsRead, dataset_of}
 use Rattle.job_tables.specs.Stops.{AllRead}
 use Rattle.session_results.specs.declared.playing.SessionsDone.{SessionsDone}
-use Rattle.session_results.specs.Results.{faults_from, refusal_count, reply_count, status_for}
+use Rattle.session_results.specs.Results.{faults_from, reply_count, status_for}
 use Rattle.rehearsal.specs.Outcomes.{CamePast, ClientsStop, Outcome, Printed, StopCause, answers_of, requests_of}
 use Rattle.rehearsal.specs.Played.{IsBefore}
 use Rattle.rehearsal.specs.Printing.{whole_text}

@@ -1,9 +1,7 @@
 -- Files that are emptied, and what was told stays so.
-use Rattle.std.proofs.Common.{◌≡◌, ◌≢◌, ◌≤◌, ◌<◌, ℕ, zero, suc, pred, ◌+◌, ◌-◌, ◌^◌, min, Bool, true, false, ◌||◌, List, [], ◌∷◌, map, length, take, Option, Some, None, bytes_eq, refl, sym, ◌∙◌, ap, subst, arith, inl, inr}
-use Rattle.std.specs.Prelude.{◌⊎◌, slice_get}
-use Rattle.std.specs.List.{list_any, AllByRecursion}
-use Rattle.std.specs.FinMap.{get, insert}
-use Rattle.std.proofs.lemmas.Slice.Eq.{bytes_eq-Decides}
+use Rattle.std.proofs.Common.{◌≡◌, ◌≤◌, ℕ, zero, suc, List, [], ◌∷◌, map, Option, Some, None, refl, sym, ◌∙◌, subst, arith, inr}
+use Rattle.std.specs.Prelude.{slice_get}
+use Rattle.std.specs.List.{AllByRecursion}
 use Rattle.pcg_base.specs.Causes.{Rose}
 use Rattle.pcg_base.specs.States.{PlaceState, SinkState}
 use Rattle.pcg_base.specs.Told.{Files, KeepsFiles, TellsAt, TellsTo}
@@ -11,14 +9,12 @@ use Rattle.client_answers.specs.declared.answers.ClientAnswers.{ClientAnswers}
 use Rattle.client_answers.specs.Written.{IsFresh}
 use Rattle.job_files.specs.declared.opening.OpenFault.{OpenFault}
 use Rattle.job_files.specs.declared.opening.OpenFault.TheVariants as opens
-use Rattle.job_files.specs.Places.{IsLater, IsSame, ReadRose, WasOpened, WriteRose}
-use Rattle.job_files.specs.Clients.{AnswersOpen, AnswersShut, AreEmpty, AreOpened, Empties, FrontWhole, RequestsShut, emptied}
-use Rattle.job_files.specs.Kept.{AreKeptIn, AreKeptOut, IsAt, KeepsOther}
+use Rattle.job_files.specs.Clients.{AreEmpty, AreOpened, Empties, RequestsShut}
+use Rattle.job_files.specs.Kept.{KeepsOther}
 use Rattle.call_lines.specs.declared.stops.FileName.TheVariants as files
 use Rattle.call_lines.specs.declared.stops.Stop.{Stop}
 use Rattle.call_lines.specs.declared.stops.Stop.TheVariants as stops
-use Rattle.rehearsal.specs.Outcomes.{AnswersFailed, AreEmptyOrSame, SessionsStop}
-use Rattle.rehearsal.proofs.Apart.{any_take}
+use Rattle.rehearsal.specs.Outcomes.{AreEmptyOrSame, SessionsStop}
 
 -- what is told of files stays told
 pub keeps_then : (a b c : Option Files) → KeepsFiles a b → KeepsFiles b c → KeepsFiles a c

@@ -1,13 +1,11 @@
 -- What one client came to, by the bytes of its files.
-use Rattle.std.proofs.Common.{◌≡◌, ◌≢◌, ◌≤◌, ℕ, ◌+◌, ◌-◌, ◌^◌, min, Bool, true, false, List, [], ◌∷◌, ◌++◌, Option, Some, None, refl, sym, ◌∙◌, ap, subst, arith, inl, inr}
-use Rattle.std.specs.Prelude.{◌⊎◌, is_some}
-use Rattle.std.specs.FinMap.{get}
+use Rattle.std.proofs.Common.{◌≡◌, ◌≤◌, ℕ, ◌+◌, Bool, true, false, List, [], ◌++◌, Option, Some, None, sym, ◌∙◌, ap, subst, arith}
+use Rattle.std.specs.Prelude.{is_some}
 use Rattle.std.specs.Io.KnownBytes.{Appends, Consumes, IsAtEnd}
 use Rattle.op_model.specs.declared.base.Dataset.{Dataset}
 use Rattle.op_model.specs.declared.base.Base.{Base}
 use Rattle.op_model.specs.declared.entry.Entry.{Entry}
 use Rattle.op_model.specs.declared.reply.Reply.{Reply}
-use Rattle.request_lines.specs.Texts.{text_of_reply}
 use Rattle.pcg_base.specs.Causes.{Rose, added}
 use Rattle.pcg_base.specs.declared.reading.StreamEnd.{StreamEnd}
 use Rattle.pcg_base.specs.declared.reading.StreamEnd.TheVariants as ends
@@ -15,8 +13,7 @@ use Rattle.pcg_base.specs.States.{PlaceState}
 use Rattle.pcg_base.specs.Told.{Files, KeepsFiles, LeavesNone, TellsAt, TellsTo}
 use Rattle.pcg_words.specs.Job.{answer_file, request_file}
 use Rattle.client_answers.specs.Written.{FaultsSo, HasTexts, texts}
-use Rattle.stream_lines.specs.Streams.{EndsIn, EndsTold}
-use Rattle.job_files.specs.Places.{ReadBroke, WriteBroke}
+use Rattle.stream_lines.specs.Streams.{EndsIn}
 use Rattle.job_files.specs.Clients.{Empties, emptied}
 use Rattle.job_files.specs.Kept.{AreKeptIn, AreKeptOut, IsAt, IsKeptIn, IsKeptOut}
 use Rattle.session_results.specs.Results.{IsSession, SessionResult, Streams}

@@ -1,5 +1,5 @@
 -- What all clients came to.
-use Rattle.std.proofs.Common.{◌≡◌, ◌≤◌, ℕ, suc, ◌+◌, Bool, true, false, List, [], ◌∷◌, length, map, Option, Some, None, refl, sym, ◌∙◌, ap, subst, arith, IsTrue}
+use Rattle.std.proofs.Common.{◌≡◌, ℕ, suc, ◌+◌, false, List, [], ◌∷◌, length, map, Option, None, refl, sym, ◌∙◌, ap, subst, arith}
 use Rattle.std.specs.Prelude.{slice_get, is_some}
 use Rattle.std.specs.List.{AllByRecursion}
 use Rattle.op_model.specs.declared.base.Dataset.{Dataset}
@@ -7,19 +7,17 @@ use Rattle.op_model.specs.declared.base.Base.{Base}
 use Rattle.op_model.specs.declared.entry.Entry.{Entry}
 use Rattle.pcg_base.specs.declared.clock.Ticks.{Ticks}
 use Rattle.pcg_base.specs.States.{PlaceState, SinkState}
-use Rattle.pcg_base.specs.Told.{TellsAt, TellsTo}
 use Rattle.pcg_words.specs.Job.{answer_file, request_file}
 use Rattle.record_rows.specs.Readings.{Image}
 use Rattle.histories.specs.Histories.{EntriesOwned}
 use Rattle.client_answers.specs.declared.answers.ClientAnswers.{ClientAnswers}
 use Rattle.client_answers.specs.Written.{FaultsSo}
 use Rattle.stream_lines.specs.declared.reading.StreamLines.{StreamLines}
-use Rattle.stream_lines.specs.Streams.{EndsIn}
 use Rattle.job_files.specs.Clients.{AreEmpty, AreOpened, AreRead, kept_of}
 use Rattle.job_files.specs.Kept.{IsKeptIn, IsKeptOut}
 use Rattle.job_tables.specs.Inputs.{clock_time}
 use Rattle.session_results.specs.declared.playing.SessionsDone.{SessionsDone}
-use Rattle.session_results.specs.Ended.{AreDone, AreLines, Source, streams_of}
+use Rattle.session_results.specs.Ended.{AreDone, AreLines, streams_of}
 use Rattle.session_results.specs.Results.{AllSessions, SessionResult}
 use Rattle.rehearsal.specs.Clients.{AllClients, broke}
 use Rattle.rehearsal.specs.Played.{sources_of}

@@ -1,26 +1,25 @@
 -- Why sessions didn't begin, and what the files are then.
-use Rattle.std.proofs.Common.{◌≡◌, ◌≤◌, ◌<◌, ℕ, zero, suc, pred, ◌+◌, ◌-◌, ◌^◌, min, Bool, true, false, List, [], ◌∷◌, map, length, take, Option, Some, None, bytes_eq, refl, sym, ◌∙◌, ap, subst, arith, inl, inr}
+use Rattle.std.proofs.Common.{◌≡◌, ℕ, zero, suc, pred, ◌-◌, Bool, true, false, List, [], ◌∷◌, map, length, take, Option, Some, None, bytes_eq, refl, sym, ◌∙◌, ap, subst, inl, inr}
 use Rattle.std.specs.Prelude.{◌⊎◌, slice_get}
-use Rattle.std.specs.List.{list_any, AllByRecursion}
 use Rattle.std.specs.FinMap.{get, insert}
 use Rattle.std.proofs.lemmas.Option.{same_Some}
 use Rattle.std.proofs.lemmas.Slice.Eq.{bytes_eq-Decides}
 use Rattle.pcg_base.specs.Causes.{Rose}
 use Rattle.pcg_base.specs.States.{PlaceState, SinkState}
-use Rattle.pcg_base.specs.Told.{Files, KeepsFiles, TellsAt, TellsTo}
+use Rattle.pcg_base.specs.Told.{Files, TellsAt, TellsTo}
 use Rattle.client_answers.specs.declared.answers.ClientAnswers.{ClientAnswers}
 use Rattle.job_files.specs.declared.opening.OpenFault.{OpenFault}
 use Rattle.job_files.specs.declared.opening.OpenFault.TheVariants as opens
-use Rattle.job_files.specs.Places.{IsSame, WasOpened, WriteRose}
+use Rattle.job_files.specs.Places.{IsSame}
 use Rattle.job_files.specs.Clients.{AnswersShut, AreEmpty, AreOpened, Empties, FrontWhole, emptied, kept_of}
 use Rattle.job_files.specs.Kept.{AreKeptIn, AreKeptOut, IsAt, KeepsOther}
 use Rattle.job_files.proofs.Emptying.{put_here, put_elsewhere}
 use Rattle.call_lines.specs.declared.stops.FileName.TheVariants as files
 use Rattle.call_lines.specs.declared.stops.Stop.{Stop}
 use Rattle.call_lines.specs.declared.stops.Stop.TheVariants as stops
-use Rattle.rehearsal.specs.Outcomes.{AnswersFailed, AreEmptyOrSame, SessionsStop}
+use Rattle.rehearsal.specs.Outcomes.{AreEmptyOrSame, SessionsStop}
 use Rattle.rehearsal.proofs.Apart.{any_take}
-use Rattle.rehearsal.proofs.Emptied.{each_opened, empties_behind, empties_kept, keeps_then, never_failed, other_behind, other_kept, other_then, rose_on, same_keeps, tells_at}
+use Rattle.rehearsal.proofs.Emptied.{each_opened, empties_behind, empties_kept, never_failed, other_kept, other_then, rose_on}
 use Rattle.rehearsal.proofs.OneClient.{IsOpen}
 
 -- a file of which some were emptied is empty or as it was

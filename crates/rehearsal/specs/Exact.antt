@@ -3,7 +3,7 @@ use Rattle.std.specs.Prelude.{◌≡◌, ◌⊎◌, ℕ, List, slice_get, Option
 use Rattle.op_model.specs.declared.base.Base.{Base}
 use Rattle.hierarchy_build.specs.declared.errors.BuildError.{BuildError}
 use Rattle.pcg_base.specs.Causes.{Rose}
-use Rattle.pcg_base.specs.States.{PlaceState}
+use Rattle.pcg_base.specs.States.{PlaceState, SinkState}
 use Rattle.pcg_base.specs.Told.{Files, IsLongerAt}
 use Rattle.pcg_words.specs.declared.job.RehearseJob.{RehearseJob}
 use Rattle.table_ingest.specs.declared.errors.Table.{Table}

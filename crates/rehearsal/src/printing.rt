@@ -1,17 +1,13 @@
 //! The log and the summary of a call, or its fault line.
 
-ghost use Rattle.std.specs.Prelude.{◌≡◌, ◌≤◌, ◌<◌, ◌-◌, ◌^◌, ◌++◌, ◌⊎◌, ℕ, List, Option, length};
-ghost use Rattle.std.specs.Io.KnownBytes.{Appends};
-ghost use Rattle.pcg_base.specs.Causes.{HasCause, Rose};
-ghost use Rattle.pcg_base.specs.Told.{AppendsFront, IsFlushed};
+ghost use Rattle.std.specs.Prelude.{◌≡◌, ◌≤◌, ◌<◌, ◌-◌};
+ghost use Rattle.pcg_base.specs.Told.{IsFlushed};
 ghost use Rattle.op_model.specs.Records.{records};
 ghost use Rattle.record_rows.specs.Readings.{ForEachLog, Image};
 ghost use Rattle.log_rows.specs.Entries.{HasLog};
-ghost use Rattle.histories.specs.Histories.{live_roots};
-ghost use Rattle.log_lines.specs.LogTexts.{Counts, log_text};
 ghost use Rattle.call_lines.specs.Printing.{Prints};
 ghost use Rattle.call_lines.specs.Statuses.{status_of};
-ghost use Rattle.call_lines.specs.Texts.{stop_text, summary_line, summary_text};
+ghost use Rattle.call_lines.specs.Texts.{stop_text, summary_text};
 ghost use Rattle.session_results.specs.Results.{status_for};
 ghost use Rattle.rehearsal.specs.Outcomes.{Printed, at_fault};
 ghost use Rattle.rehearsal.specs.Printing.{Sums, whole_text};

@@ -1,12 +1,11 @@
 //! A rehearsal, step by step.
 
-ghost use Rattle.std.specs.Prelude.{◌≡◌, ◌≤◌, ◌⊎◌, ℕ, IfErr, IfOk};
+ghost use Rattle.std.specs.Prelude.{◌≡◌, ◌≤◌, IfErr, IfOk};
 ghost use Rattle.pcg_base.specs.Told.{IsFlushed};
 ghost use Rattle.pcg_words.specs.Job.{IsRehearse};
 ghost use Rattle.job_files.specs.Kept.{KeepsOther};
 ghost use Rattle.job_files.specs.Places.{IsLater};
-ghost use Rattle.rehearsal.specs.Exact.{IsDue, IsFine, IsQuiet, Tells};
-ghost use Rattle.rehearsal.specs.Outcomes.{IsDone, Outcome, StopCause, answers_of};
+ghost use Rattle.rehearsal.specs.Outcomes.{Outcome, StopCause, answers_of};
 ghost use Rattle.rehearsal.specs.Served.{IsServed};
 
 use crate::clients::run_clients;

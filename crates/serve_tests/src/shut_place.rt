@@ -1,7 +1,6 @@
 //! A place that opens nothing for writing. It tells no bytes, and its counts stand at their end.
 
-ghost use Rattle.std.specs.Prelude.{List, ℕ, [], None, ◌^◌, ◌-◌, true};
-ghost use Rattle.pcg_base.specs.Told.{Counts};
+ghost use Rattle.std.specs.Prelude.{[], None, ◌^◌, ◌-◌, true};
 
 use crate::samples::{EDGES, ROOTS, SUPERVOXELS};
 use memory_devices::{MemSink, MemSource};
@@ -19,19 +18,15 @@ impl Place for ShutPlace {
 
     type Out = MemSink;
 
-    ghost files = { λ self. None };
-
-    ghost read_faults = { λ self. 2 ^ 64 - 1 };
-
-    ghost write_faults = { λ self. 2 ^ 64 - 1 };
-
-    ghost counts = { λ self name. record { source_openings = 2 ^ 64 - 1; sink_openings = 2 ^ 64 - 1; source_faults = 2 ^ 64 - 1; sink_faults = 2 ^ 64 - 1 } };
-
-    ghost opened_in = { λ self name. true };
-
-    ghost opened_out = { λ self name. true };
-
-    ghost left_at = { λ self name. [] };
+    ghost state = { λ self. record {
+      files = None;
+      left = λ name. [];
+      reads = 2 ^ 64 - 1;
+      writes = 2 ^ 64 - 1;
+      counts = λ name. record { source_openings = 2 ^ 64 - 1; sink_openings = 2 ^ 64 - 1; source_faults = 2 ^ 64 - 1; sink_faults = 2 ^ 64 - 1 };
+      opened_in = λ name. true;
+      opened_out = λ name. true;
+    } };
 
     fn source_of(&mut self, name: &str) -> Result<MemSource, PlaceError> {
         let bytes = match name {

@@ -15,11 +15,7 @@ use std::alloc::Global;
 pub(crate) struct NoAnswers;
 
 impl Sink for NoAnswers {
-    ghost held = { λ _. None };
-
-    ghost flushed = { λ _. None };
-
-    ghost faults = { λ _. 0 };
+    ghost state = { λ _. record { held = None; flushed = None; faults = 0 } };
 
     fn write(&mut self, piece: &[u8]) -> Result<usize, Failed> {
         Ok(piece.len())

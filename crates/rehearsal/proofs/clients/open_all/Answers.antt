@@ -1,4 +1,4 @@
-use Rattle.std.proofs.Common.{◌≡◌, ◌≤◌, ◌∙◌, ℕ, List, true, length, map, subst, sym, ap, arith, rules, IsTrue, Option}
+use Rattle.std.proofs.Common.{◌≡◌, ◌∙◌, ℕ, List, true, length, map, subst, sym, ap, arith, rules, Option}
 use Rattle.std.specs.List.{AllByRecursion}
 use Rattle.pcg_base.specs.States.{PlaceState}
 use Rattle.job_files.specs.Places.{EachStep, KeepsIn}

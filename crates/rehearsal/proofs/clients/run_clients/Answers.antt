@@ -1,5 +1,5 @@
-use Rattle.std.proofs.Common.{◌≡◌, ◌≤◌, ◌<◌, ◌∙◌, ℕ, ◌*◌, ◌+◌, List, length, map, subst, sym, ap, arith, rules, IsTrue, false, bytes_eq}
-use Rattle.std.specs.List.{AllByRecursion, list_any}
+use Rattle.std.proofs.Common.{◌≡◌, ◌∙◌, length, map, subst, sym, ap, IsTrue, false, bytes_eq}
+use Rattle.std.specs.List.{list_any}
 use Rattle.pcg_base.specs.States.{PlaceState}
 use Rattle.op_model.specs.declared.base.Dataset.{Dataset}
 use Rattle.op_model.specs.Ingest.{ingested}

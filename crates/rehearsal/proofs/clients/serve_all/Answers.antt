@@ -1,11 +1,10 @@
-use Rattle.std.proofs.Common.{◌≡◌, ◌∙◌, ℕ, List, Option, map, refl, subst, sym, rules}
+use Rattle.std.proofs.Common.{◌≡◌, map, refl, subst, rules}
 use Rattle.pcg_base.specs.States.{PlaceState}
-use Rattle.pcg_base.specs.declared.clock.Ticks.{Ticks}
 use Rattle.job_files.specs.Places.{EachStep, KeepsIn, KeepsOut}
 use Rattle.job_files.specs.Clients.{kept_of}
 use Rattle.session_results.specs.declared.playing.SessionsDone.{SessionsDone}
 use Rattle.session_results.specs.Ended.{AreDone}
-use Rattle.rehearsal.specs.Played.{ArePlayed, sources_of}
+use Rattle.rehearsal.specs.Played.{sources_of}
 use Rattle.rehearsal.proofs.Serving.{are_lines}
 use Rattle.rehearsal.proofs.Whole.{if_none_then, if_some_then, unplayed, unread}
 use Rattle.rehearsal.proofs.clients.serve_all.Goals as goal

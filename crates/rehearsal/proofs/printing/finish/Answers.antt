@@ -1,5 +1,4 @@
-use Rattle.std.proofs.Common.{◌≡◌, ◌∙◌, ap, sym, subst, rules, inl, inr}
-use Rattle.call_lines.specs.declared.summary.ClientFault.{ClientFault}
+use Rattle.std.proofs.Common.{◌≡◌, ◌∙◌, ap, sym, rules, inl, inr}
 use Rattle.log_lines.specs.LogTexts.{log_text}
 use Rattle.session_results.specs.Results.{status_for}
 use Rattle.rehearsal.specs.Outcomes.{at_fault}
