@@ -1,7 +1,6 @@
 -- Fronts of the tables and streams.
 use Rattle.std.proofs.Common.{◌≡◌, ◌∙◌, ℕ, zero, suc, ◌+◌, ◌-◌, ◌≤◌, refl, sym, ap, subst, arith, List, [], ◌∷◌, ◌++◌, map, take, drop, append_assoc, append-nil}
 use Rattle.std.proofs.lemmas.List.{map-append, take-append-drop}
-use Rattle.made_input.specs.Edges.{IsWish}
 use Rattle.made_input.specs.Rows.{Text, record_text, table_text}
 use Rattle.made_input.specs.Texts.{edge_fields, edge_header, id_text, line_of, stream_of, supervoxel_rows}
 use Rattle.made_input.specs.declared.edges.MadeEdge.{MadeEdge}

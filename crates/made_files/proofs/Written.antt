@@ -1,14 +1,12 @@
 -- Files that were put one after the other.
-use Rattle.std.proofs.Common.{◌≡◌, ◌∙◌, ℕ, ◌+◌, ◌≤◌, Bool, true, false, refl, sym, ap, subst, arith, inl, inr, List, [], ◌∷◌, ◌++◌, Option, Some, None, append_assoc, append-nil, bytes_eq}
-use Rattle.std.specs.Prelude.{Result, Ok, Err, ◌≢◌, OnErr, OnOk, IsErrOf}
+use Rattle.std.proofs.Common.{◌≡◌, ◌∙◌, ℕ, Bool, true, false, refl, sym, ap, subst, arith, inl, inr, List, [], ◌∷◌, ◌++◌, Option, Some, None, append_assoc}
+use Rattle.std.specs.Prelude.{Result, Ok, Err, OnErr, OnOk}
 use Rattle.std.specs.FinMap.{insert}
 use Rattle.std.specs.Io.KnownBytes.{Appends}
-use Rattle.std.proofs.lemmas.Slice.Eq.{bytes_eq-Decides}
-use Rattle.pcg_base.specs.Causes.{Rose, added}
 use Rattle.pcg_base.specs.States.{PlaceState, SinkState}
-use Rattle.pcg_base.specs.Told.{AppendsFront, Counts, Files, KeepsFiles, OpensSink, PutsFile, PutsHeld, TellsTo}
+use Rattle.pcg_base.specs.Told.{AppendsFront, Files, KeepsFiles, PutsFile, PutsHeld, TellsTo}
 use Rattle.pcg_words.specs.declared.job.MakeJob.{MakeJob}
-use Rattle.request_lines.specs.Sent.{Puts, Sends, waiting}
+use Rattle.request_lines.specs.Sent.{Sends, waiting}
 use Rattle.request_lines.specs.declared.page.Page.{Page}
 use Rattle.made_files.specs.Writing.{File, PutsAll, PutsFront, PutsNext, PutsSome, RoseAt, WritesLater, put_all}
 use Rattle.made_files.specs.Files.{IsLater, StopsSo, Wrote, name_of}

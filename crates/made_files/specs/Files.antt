@@ -1,5 +1,5 @@
 -- The files that a job of `make` asks for.
-use Rattle.std.specs.Prelude.{◌≡◌, ◌≤◌, ◌-◌, ⊤, ℕ, List, [], ◌∷◌, ◌++◌, length, get_or, Option, Result, Ok, Err}
+use Rattle.std.specs.Prelude.{◌≡◌, ◌≤◌, ◌-◌, ⊤, ℕ, List, [], ◌∷◌, ◌++◌, length, get_or, Result, Ok, Err}
 use Rattle.pcg_base.specs.Causes.{Rose}
 use Rattle.pcg_base.specs.States.{PlaceState}
 use Rattle.pcg_words.specs.Job.{request_file}

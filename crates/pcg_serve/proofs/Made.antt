@@ -9,7 +9,6 @@ use Rattle.made_files.specs.declared.stops.MadeFile.TheVariants as made
 use Rattle.made_files.specs.declared.stops.MakeStop.{MakeStop}
 use Rattle.made_files.specs.declared.stops.MakeStop.TheVariants as makes
 use Rattle.call_lines.specs.declared.stops.Stop.{Stop}
-use Rattle.call_lines.specs.declared.stops.Stop.TheVariants as stops
 use Rattle.pcg_serve.specs.Making.{stop_of}
 use Rattle.call_lines.specs.Statuses.{status_of}
 

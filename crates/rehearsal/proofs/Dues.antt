@@ -144,7 +144,7 @@ none_due m left job h r s (inr (inr d)) = not_full m job h.0 h.1 h.2 d.1
 
 -- a place that tells these files, and else what this one does
 abbrev telling : Files → PlaceState → PlaceState
-telling m s = record { files = Some m; left = s.left; reads = s.reads; writes = s.writes; counts = s.counts }
+telling m s = record s { files = Some m }
 
 stop_due : (m : Files) (job : RehearseJob) (old new : PlaceState) (stop : Stop) → InputStop job (telling m old) new stop → (s : ℕ) → IsDue (Some m) job s → Ends (status_of stop) s
 stop_due m job old new stops.BadWords t s d = absurd t
@@ -175,5 +175,5 @@ due job old new out out' status o s d = go old.files refl d
     go : (files : Option Files) → old.files ≡ files → IsDue files job s → Ends status s
     go None e d = absurd d
     go (Some m) e d =
-        let same : old ≡ telling m old = ap (λ (f : Option Files). record { files = f; left = old.left; reads = old.reads; writes = old.writes; counts = old.counts }) e in
+        let same : old ≡ telling m old = ap (λ (f : Option Files). record old { files = f }) e in
         told_due m job old new out out' status (subst (λ x. Outcome job x new out out' status) same o) s d

@@ -1,5 +1,5 @@
 -- What is printed, piece by piece.
-use Rattle.std.proofs.Common.{◌≡◌, ◌≤◌, ℕ, Bool, true, false, cond, eqb, eq-eqb, ◌+◌, ◌-◌, List, [], ◌∷◌, ◌++◌, length, Option, Some, None, refl, sym, ◌∙◌, ap, subst, arith, inl, inr, append_assoc}
+use Rattle.std.proofs.Common.{◌≡◌, ◌≤◌, ℕ, Bool, true, false, cond, eqb, eq-eqb, ◌-◌, List, [], ◌∷◌, ◌++◌, length, Option, Some, None, refl, sym, ◌∙◌, ap, subst, arith, inl, inr, append_assoc}
 use Rattle.std.proofs.lemmas.Bool.{false≢true}
 use Rattle.std.specs.Io.KnownBytes.{Appends}
 use Rattle.std.proofs.KnownBytes.{Appends-trans}
@@ -10,6 +10,7 @@ use Rattle.op_model.specs.Legal.{Legal}
 use Rattle.op_model.specs.Records.{records}
 use Rattle.histories.specs.Histories.{live_roots}
 use Rattle.pcg_base.specs.Causes.{Rose}
+use Rattle.pcg_base.specs.States.{SinkState}
 use Rattle.pcg_base.specs.Told.{AppendsFront}
 use Rattle.log_lines.specs.declared.writing.LogCounts.{LogCounts}
 use Rattle.log_lines.specs.LogTexts.{Counts, log_text}
@@ -57,19 +58,19 @@ summed d b log clients counts faults lines refused s c h =
     ∙ ap (λ n. summary_line (length log - 1) clients (length log) faults lines (records d b log) refused (length (live_roots log)) n) h.status
 
 -- a text behind one that was printed
-behind : (a b c : Option (List ℕ)) (i j k : ℕ) (xs ys : List ℕ) (ended status : ℕ) → Appends a b xs → j ≡ i → Printed b c j k ys ended status → Printed a c i k (xs ++ ys) ended status
-behind a b c i j k xs ys ended status p e (inl h) = inl (Appends-trans a b c xs ys p h.0, h.1 ∙ e, h.2)
-behind a b c i j k xs ys ended status p e (inr (inl h)) = inr (inl (front_then a b c xs ys p h.0, subst (λ n. Rose n k) e h.1, h.2))
-behind a b c i j k xs ys ended status p e (inr (inr h)) = inr (inr (front_then a b c xs ys p h.0, h.1 ∙ e, h.2))
+behind : (a b c : SinkState) (xs ys : List ℕ) (ended status : ℕ) → Appends a.held b.held xs → b.faults ≡ a.faults → Printed b c ys ended status → Printed a c (xs ++ ys) ended status
+behind a b c xs ys ended status p e (inl h) = inl (Appends-trans a.held b.held c.held xs ys p h.0, h.1 ∙ e, h.2)
+behind a b c xs ys ended status p e (inr (inl h)) = inr (inl (front_then a.held b.held c.held xs ys p h.0, subst (λ n. Rose n c.faults) e h.1, h.2))
+behind a b c xs ys ended status p e (inr (inr h)) = inr (inr (front_then a.held b.held c.held xs ys p h.0, h.1 ∙ e, h.2))
 
-pub all_printed : (d : Dataset) (b : Base) (log : List Entry) (clients : ℕ) (counts : LogCounts) (faults : List ClientFault) (lines refused : ℕ) (s : Summary) (old mid new : Option (List ℕ)) (i j k status : ℕ)
-    → Counts d b log counts → Sums clients counts faults lines refused s → Appends old mid (log_text log) → j ≡ i → Printed mid new j k (summary_text s) s.status status
-    → Printed old new i k (whole_text d b log clients faults lines refused) (status_for faults) status
-all_printed d b log clients counts faults lines refused s old mid new i j k status c h p e q =
+pub all_printed : (d : Dataset) (b : Base) (log : List Entry) (clients : ℕ) (counts : LogCounts) (faults : List ClientFault) (lines refused : ℕ) (s : Summary) (old mid new : SinkState) (status : ℕ)
+    → Counts d b log counts → Sums clients counts faults lines refused s → Appends old.held mid.held (log_text log) → mid.faults ≡ old.faults → Printed mid new (summary_text s) s.status status
+    → Printed old new (whole_text d b log clients faults lines refused) (status_for faults) status
+all_printed d b log clients counts faults lines refused s old mid new status c h p e q =
     let text = summary_line (length log - 1) clients (length log) faults lines (records d b log) refused (length (live_roots log)) (status_for faults) in
     let t : summary_text s ≡ text = summed d b log clients counts faults lines refused s c h in
-    let q2 : Printed mid new j k text s.status status = subst (λ x. Printed mid new j k x s.status status) t q in
-    behind old mid new i j k (log_text log) text (status_for faults) status p e (subst (λ n. Printed mid new j k text n status) h.status q2)
+    let q2 : Printed mid new text s.status status = subst (λ x. Printed mid new x s.status status) t q in
+    behind old mid new (log_text log) text (status_for faults) status p e (subst (λ n. Printed mid new text n status) h.status q2)
 
 -- an entry at least
 pub some_entry : (d : Dataset) (b : Base) (log : List Entry) (counts : LogCounts) → Legal d b log → Counts d b log counts → 1 ≤ counts.entries

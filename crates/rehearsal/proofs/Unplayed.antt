@@ -1,5 +1,5 @@
 -- Why sessions didn't begin, and what the files are then.
-use Rattle.std.proofs.Common.{◌≡◌, ℕ, zero, suc, pred, ◌-◌, Bool, true, false, List, [], ◌∷◌, map, length, take, Option, Some, None, bytes_eq, refl, sym, ◌∙◌, ap, subst, inl, inr}
+use Rattle.std.proofs.Common.{◌≡◌, ℕ, zero, suc, pred, Bool, true, false, List, [], ◌∷◌, map, length, take, Option, Some, None, bytes_eq, refl, sym, ◌∙◌, ap, subst, inl, inr}
 use Rattle.std.specs.Prelude.{◌⊎◌, slice_get}
 use Rattle.std.specs.FinMap.{get, insert}
 use Rattle.std.proofs.lemmas.Option.{same_Some}

@@ -1,13 +1,9 @@
-use Rattle.std.proofs.Common.{rules, ◌≡◌, ◌∙◌, ◌∷◌, [], ◌++◌, ap, sym, subst, map, length, List}
+use Rattle.std.proofs.Common.{rules, ◌≡◌, ◌∙◌, ap, sym, subst, length, List}
 use Rattle.std.specs.List.{All}
-use Rattle.std.specs.Prelude.{Result, Ok, Err}
-use Rattle.made_input.specs.Edges.{IsMade, Made}
-use Rattle.made_input.specs.Rows.{table_text}
-use Rattle.made_input.specs.Texts.{edge_fields, edge_header, input_of, supervoxel_rows}
+use Rattle.made_input.specs.Edges.{IsMade}
 use Rattle.made_input.specs.declared.edges.MadeEdge.{MadeEdge}
 use Rattle.made_input.proofs.Plain.{all_made}
-use Rattle.made_files.specs.Files.{Wrote, files_of}
-use Rattle.made_files.specs.Writing.{File, KeepsBut}
+use Rattle.made_files.specs.Files.{files_of}
 use Rattle.made_files.proofs.Others.{full_keeps, part_keeps}
 use Rattle.made_files.proofs.Parts.{all_done, edges_so, first_stopped, none_wrote, second_stopped, third_stopped}
 use Rattle.made_files.proofs.Written.{later_then}

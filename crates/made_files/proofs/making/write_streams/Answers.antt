@@ -1,7 +1,6 @@
-use Rattle.std.proofs.Common.{rules, ◌≡◌, ◌∙◌, ◌<◌, arith, length, refl}
+use Rattle.std.proofs.Common.{rules, ◌≡◌, ◌∙◌, length, refl}
 use Rattle.made_files.proofs.Parts.{last_all, none_upto, start_state, step_all, step_some, step_state}
-use Rattle.made_files.proofs.Written.{all_none, later_same, later_then, stops_then}
-use Rattle.made_files.specs.declared.stops.MakeStop.{MakeStop}
+use Rattle.made_files.proofs.Written.{later_same, later_then, stops_then}
 use Rattle.made_files.proofs.making.write_streams.Goals as goal
 
 pub loop-index-init : goal.loop-index-init

@@ -1,4 +1,4 @@
-use Rattle.std.proofs.Common.{rules, ◌≡◌, ◌∙◌, ◌+◌, ◌++◌, [], ◌∷◌, ap, sym, refl, codes, get_or, false}
+use Rattle.std.proofs.Common.{rules, ◌≡◌, ◌∙◌, ◌+◌, ◌++◌, [], ap, sym, refl, codes, get_or, false}
 use Rattle.made_input.specs.Rows.{record_text, table_text}
 use Rattle.made_input.specs.Texts.{edge_fields}
 use Rattle.made_input.specs.declared.edges.MadeEdge.{MadeEdge}

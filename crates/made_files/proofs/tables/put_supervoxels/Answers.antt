@@ -1,6 +1,6 @@
-use Rattle.std.proofs.Common.{rules, ◌≡◌, ◌∙◌, ◌+◌, ◌++◌, [], ◌∷◌, ap, sym, refl, codes, arith, subst}
+use Rattle.std.proofs.Common.{rules, ◌≡◌, ◌∙◌, ◌+◌, ◌++◌, [], ◌∷◌, ap, sym, refl, codes, arith}
 use Rattle.made_input.specs.Rows.{record_text, table_text}
-use Rattle.made_input.specs.Texts.{id_text, supervoxel_rows}
+use Rattle.made_input.specs.Texts.{id_text}
 use Rattle.made_input.proofs.Lines.{all_lines, first_line, next_line, rows_below}
 use Rattle.request_lines.proofs.Putting.{puts_both, puts_same}
 use Rattle.made_files.proofs.Fronts.{front_rows}

@@ -9,8 +9,7 @@ pub returns-in-Ok-clause-printed : goal.returns-in-Ok-clause-printed
 returns-in-Ok-clause-printed g c = λ d b log image.
     let wrote = c.in-Ok.ensures.ok d b log image in
     all_printed d b log c.args.clients c.in-Ok.counts c.args.done.faults.items c.args.done.lines c.args.done.refused c.summary_of-summary.result
-    (g.K.Sink.state c.args.out.now).held (g.K.Sink.state c.write_log.new.out).held (g.K.Sink.state c.end_with.new.out).held
-    (g.K.Sink.state c.args.out.now).faults (g.K.Sink.state c.write_log.new.out).faults (g.K.Sink.state c.end_with.new.out).faults c.end_with.result
+    (g.K.Sink.state c.args.out.now) (g.K.Sink.state c.write_log.new.out) (g.K.Sink.state c.end_with.new.out) c.end_with.result
     wrote.1 c.summary_of-summary.ensures wrote.0 c.in-Ok.ensures.still c.end_with.ensures.printed
 
 pub returns-in-Err-Failed-clause-printed : goal.returns-in-Err-Failed-clause-printed
