@@ -136,7 +136,17 @@ fn next_layer<W: Words>(
     let ids = ids_of(part);
     let firsts = next_firsts(alloc, dataset, part, edges, layer, &below.firsts)?;
     let next = add_layer(
-        alloc, w, dataset, prefix, ids, ends, layer, firsts, below, all, &[],
+        alloc,
+        w,
+        dataset,
+        prefix,
+        ids,
+        ends,
+        layer,
+        firsts,
+        below,
+        all,
+        &[],
     )?;
     Ok(next)
 }
