@@ -22,6 +22,7 @@ use octree_layers::lists::ids_of;
 use op_model::{Base, Dataset};
 use part_layers::{edges_by_level, first_firsts, next_firsts};
 use pcg_base::{NoMemory, Words};
+use row_words::Spot;
 use std::alloc::Global;
 
 /// A layer, for the one above it.
@@ -52,7 +53,8 @@ pub fn lowest(alloc: Global, firsts: Vec<u32>) -> LayerBelow
 /// The next layer, whose nodes and links are put behind those of the layers below. `ids` has supervoxels,
 /// ascending, with the least leaf of each child of a node that the entry makes; `ends` has the places of
 /// the ends of its changed pairs there, and `firsts` for each place that of the least leaf of its node
-/// of the layer.
+/// of the layer. `guesses` may tell for such a place where the record of a child that stands may be;
+/// where it isn't there, it is found by a climb.
 ///
 /// # Errors
 ///
@@ -68,6 +70,7 @@ pub fn add_layer<W: Words>(
     firsts: Vec<u32>,
     below: &LayerBelow,
     all: &mut EntryLayers,
+    guesses: &[Spot],
 ) -> Result<LayerBelow, NoMemory>
     requires layer { (2 ≤ layer) × (layer ≤ top dataset.now) }
     requires made { (b : Base) × (log : List Entry) × (e : Entry) × IsEntryList dataset.now b log e (W.words w.old) ids.now ends.now × AreLayersTo dataset.now b log e ids.now (layer - 2) all.old below.now × (prefix ≡ length log)
@@ -88,6 +91,7 @@ pub fn add_layer<W: Words>(
         &below.made,
         &firsts,
         &made,
+        guesses,
     )?;
     add(all, layer, &made.nodes, made.spent, &links)?;
     Ok(LayerBelow { firsts, made })
@@ -132,7 +136,17 @@ fn next_layer<W: Words>(
     let ids = ids_of(part);
     let firsts = next_firsts(alloc, dataset, part, edges, layer, &below.firsts)?;
     let next = add_layer(
-        alloc, w, dataset, prefix, ids, ends, layer, firsts, below, all,
+        alloc,
+        w,
+        dataset,
+        prefix,
+        ids,
+        ends,
+        layer,
+        firsts,
+        below,
+        all,
+        &[],
     )?;
     Ok(next)
 }

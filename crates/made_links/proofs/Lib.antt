@@ -2,6 +2,7 @@ pub mod RankSteps
 pub mod Climb
 pub mod Made
 pub mod Below
+pub mod Guessed
 pub mod Groups
 pub mod Kin
 pub mod Bound

@@ -31,6 +31,15 @@ pub struct Child {
     pub parent: usize,
 }
 
+// the guess for a place, or 0 where there is none
+fn guess_at(guesses: &[Spot], place: usize) -> Spot {
+    if place < guesses.len() {
+        guesses[place]
+    } else {
+        Spot(0)
+    }
+}
+
 // the child whose least leaf stands at a place
 fn found_child<W: Words>(
     w: &mut W,
@@ -40,6 +49,7 @@ fn found_child<W: Words>(
     below_firsts: &[u32],
     below: &MadeLayer,
     below_ranks: &[usize],
+    guesses: &[Spot],
     place: usize,
     parent: usize,
 ) -> Child
@@ -61,7 +71,8 @@ fn found_child<W: Words>(
             parent,
         };
     }
-    let spot = record_below(w, prefix, layer, ids[place]);
+    let guess = guess_at(guesses, place);
+    let spot = record_below(w, prefix, layer, ids[place], guess);
     Child {
         id: NodeId(id_of(w, spot)),
         spot,
@@ -82,6 +93,7 @@ fn put_child<W: Words>(
     below_ranks: &[usize],
     firsts: &[u32],
     ranks: &[usize],
+    guesses: &[Spot],
     place: usize,
 ) -> Result<(), NoMemory>
     requires place { place < length ids.now }
@@ -108,6 +120,7 @@ fn put_child<W: Words>(
         below_firsts,
         below,
         below_ranks,
+        guesses,
         place,
         parent,
     );
@@ -119,7 +132,7 @@ fn put_child<W: Words>(
 
 /// The children of the new nodes of a layer, by the places of their least leaves. The ranks of the
 /// places tell, from 1 on, which of the new nodes below and of the layer have their least leaves
-/// there.
+/// there. The guesses tell for places where the record of a child that stands may be.
 ///
 /// # Errors
 ///
@@ -135,6 +148,7 @@ pub fn children<W: Words>(
     below_ranks: &[usize],
     firsts: &[u32],
     ranks: &[usize],
+    guesses: &[Spot],
 ) -> Result<Vec<Child>, NoMemory>
     requires counts { (length firsts.now ≡ length ids.now) × (length ranks.now ≡ length ids.now) × All (λ p. p < length ids.now) firsts.now }
     requires below { (d : Dataset) × (b : Base) × (log : List Entry) × (e : Entry) × AreBelow d b log e (W.words w.old) prefix ids.now layer below_firsts.now below.now × (2 ≤ layer) × (layer ≤ top d) }
@@ -157,6 +171,7 @@ pub fn children<W: Words>(
             below_ranks,
             firsts,
             ranks,
+            guesses,
             place,
         )?;
     }

@@ -3,8 +3,8 @@
 //!
 //! The promise: [`layer_links`] gives a link for each child of each new node, by the nodes in the
 //! order of their records and then by the ids of the children. A child that the entry makes too is
-//! told by the layer below; for another one the record that stands is found by climbing from its
-//! least leaf.
+//! told by the layer below; for another one the record that stands is found where the caller guesses
+//! it, if the words tell that it is there, else by climbing from its least leaf.
 //!
 //! - `climbing`: the record of a child that stands
 //! - `finding`: the children of the new nodes

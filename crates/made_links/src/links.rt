@@ -20,6 +20,7 @@ use entry_parts::{MadeLink, MadeNode};
 use made_nodes::MadeLayer;
 use node_ids::NodeId;
 use pcg_base::{NoMemory, Words};
+use row_words::Spot;
 use std::alloc::Global;
 
 // a link behind a list
@@ -60,7 +61,8 @@ fn linked(alloc: Global, nodes: &[MadeNode], children: &[Child]) -> Result<Vec<M
 /// layer; below layer 2 each supervoxel is its own. `below` and `made` are what the entry makes there,
 /// which is nothing below layer 2. Where a chunk of the layer below is spent, the ids of children there may
 /// be wrong; there are as many links all the same. Time is linear in `ids`, n log n in the children, and a climb for
-/// each child that stands.
+/// each child that stands whose record isn't where `guesses` has it for the place of its least leaf.
+/// They may be any: what stands there is tested by the words.
 ///
 /// # Errors
 ///
@@ -75,6 +77,7 @@ pub fn layer_links<W: Words>(
     below: &MadeLayer,
     firsts: &[u32],
     made: &MadeLayer,
+    guesses: &[Spot],
 ) -> Result<Vec<MadeLink>, NoMemory>
     requires linked { (d : Dataset) × (b : Base) × (log : List Entry) × (e : Entry) × IsLinked d b log e (W.words w.old) prefix ids.now layer below_firsts.now below.now firsts.now made.now × (2 ≤ layer) × (layer ≤ top d) }
     ensures same { w.new ≡ w.old }
@@ -94,6 +97,7 @@ pub fn layer_links<W: Words>(
         &below_ranks,
         firsts,
         &own_ranks,
+        guesses,
     )?;
     let list = by_id(list)?;
     let list = by_parent(list)?;

@@ -13,6 +13,7 @@ ghost use Rattle.entry_layers.specs.Layering.{AreLayersTo};
 ghost use Rattle.unite_laws.specs.Uniting.{HaveState};
 ghost use Rattle.united_layers.specs.Layering.{ArePlaced, IsUnitedList};
 
+use crate::guessing::child_guesses;
 use crate::joints::PlacedJoint;
 use crate::listing::{ids_of, pairs_to, placed};
 use crate::reading::joints;
@@ -64,6 +65,7 @@ fn next_layer<W: Words>(
     layer: u8,
     below: &LayerBelow,
     all: &mut EntryLayers,
+    guesses: &[Spot],
 ) -> Result<LayerBelow, NoMemory>
     requires size { length ids.now < 2 ^ 32 }
     requires placed { ArePlaced (length ids.now) joints.now }
@@ -74,12 +76,12 @@ fn next_layer<W: Words>(
 {
     let firsts = layer_firsts(alloc, ids, joints, layer)?;
     let next = add_layer(
-        alloc, w, dataset, prefix, ids, ends, layer, firsts, below, all,
+        alloc, w, dataset, prefix, ids, ends, layer, firsts, below, all, guesses,
     )?;
     Ok(next)
 }
 
-// all layers
+// all layers. The joints begin with those of the children of the nodes at some places
 fn layers_of<W: Words>(
     alloc: Global,
     w: &mut W,
@@ -87,6 +89,7 @@ fn layers_of<W: Words>(
     ids: &[NodeId],
     ends: &[u32],
     joints: &[PlacedJoint],
+    places: &[Spot],
 ) -> Result<EntryLayers, NoMemory>
     requires size { length ids.now < 2 ^ 32 }
     requires placed { ArePlaced (length ids.now) joints.now }
@@ -95,11 +98,13 @@ fn layers_of<W: Words>(
     ensures layers { IfOk result (λ x. (b : Base) (log : List Entry) (e : Entry) → IsUnitedList dataset.now b log e (W.words w.old) ids.now ends.now joints.now → AreEntryLayers dataset.now b log e x) }
 {
     let prefix = length(w);
+    let list = child_guesses(alloc, w, ids.len(), joints, places)?;
+    let guesses = list.as_slice();
     let mut all = begin(alloc);
     let mut below = first_layer(alloc, ids)?;
     for layer in 2..dataset.grid.top_layer() + 1 {
         below = next_layer(
-            alloc, w, dataset, prefix, ids, ends, joints, layer, &below, &mut all,
+            alloc, w, dataset, prefix, ids, ends, joints, layer, &below, &mut all, guesses,
         )?;
     }
     all.roots = ids_of_made(alloc, &below.made.nodes)?;
@@ -110,8 +115,8 @@ fn layers_of<W: Words>(
 /// the log before it. `changed` has the pairs, and `places` the places of the nodes that it retires.
 ///
 /// The children of those nodes are looked at, and the last node of each chunk in which the entry makes
-/// some. Time is n log n in the links that the entry makes, a layer at a time, with a climb for each
-/// child that stands.
+/// some. Time is n log n in the links that the entry makes, a layer at a time. The record of a child that
+/// stands is read where the link of its retired parent leads.
 ///
 /// # Errors
 ///
@@ -134,6 +139,6 @@ pub fn united_layers<W: Words>(
     let ids = list.as_slice();
     let placed = placed(alloc, ids, found)?;
     let ends = end_places(alloc, ids, changed)?;
-    let layers = layers_of(alloc, w, dataset, ids, &ends, &placed)?;
+    let layers = layers_of(alloc, w, dataset, ids, &ends, &placed, places)?;
     Ok(layers)
 }

@@ -8,9 +8,11 @@
 //! - `joints`: pairs of supervoxels that are of one node from some layer on
 //! - `reading`: the joints of retired nodes with their children, and of changed pairs
 //! - `listing`: the supervoxels of joints, and the joints by their places
+//! - `guessing`: where the records of children may stand
 //! - `layering`: the layers, one from the other
 #![tactic(auto)]
 
+mod guessing;
 mod joints;
 mod layering;
 mod listing;

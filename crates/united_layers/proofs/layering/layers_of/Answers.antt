@@ -11,7 +11,7 @@ use Rattle.united_layers.proofs.layering.layers_of.Goals as goal
 
 pub loop-layer-init : goal.loop-layer-init
 loop-layer-init g c = record {
-  same = c.length-prefix.ensures.same;
+  same = c.child_guesses.ensures.same ∙ c.length-prefix.ensures.same;
   low = omega arith;
   made = λ b log e is. c.in_ok-below.ensures c.args.dataset.now b log e (g.W.Words.words c.args.w.now) c.args.ends.now c.args.joints.now c.begin-all.result is (c.begin-all.ensures c.args.dataset.now b log e);
 }

@@ -4,7 +4,7 @@ use Rattle.record_rows.specs.Readings.{HoldsId, ParentImage}
 use Rattle.record_rows.specs.Versions.{child_at}
 use Rattle.node_reader.proofs.Climbs.{next_at}
 use Rattle.made_links.proofs.Climb.{climb_from, log_all, lowest_at}
-use Rattle.made_links.proofs.climbing.record_below.Goals as goal
+use Rattle.made_links.proofs.climbing.climbed.Goals as goal
 
 pub loop-above-init : goal.loop-above-init
 loop-above-init g c = record {

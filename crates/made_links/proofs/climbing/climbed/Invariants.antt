@@ -10,7 +10,7 @@ use Rattle.record_rows.specs.LogRows.{rows_of}
 use Rattle.record_rows.specs.Readings.{HoldsId, ParentImage}
 use Rattle.record_rows.specs.Versions.{child_at}
 use Rattle.record_rows.specs.Words.{place_from}
-use Rattle.made_links.proofs.climbing.record_below.Given as goal
+use Rattle.made_links.proofs.climbing.climbed.Given as goal
 
 abbrev pub invariant-loop-above : goal.invariant-loop-above
 invariant-loop-above g l = record {
