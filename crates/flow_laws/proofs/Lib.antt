@@ -1,0 +1,4 @@
+pub mod Residues
+pub mod Augmenting
+pub mod Greatest
+pub mod Showing
