@@ -1,0 +1,5 @@
+pub mod Residues
+pub mod Augmenting
+pub mod Greatest
+pub mod Showing
+pub mod Playing
