@@ -1,5 +1,5 @@
 -- The lists of a base's records, and why they aren't built.
-use Rattle.std.specs.Prelude.{◌≡◌, ℕ, ◌<◌, ◌++◌, List, [], map, ⊤}
+use Rattle.std.specs.Prelude.{◌≡◌, ℕ, ◌<◌, ◌≤◌, ◌++◌, List, [], map, ⊤}
 use Rattle.std.specs.List.{All}
 use Rattle.node_ids.specs.Ids.{parts_of}
 use Rattle.op_model.specs.declared.base.Dataset.{Dataset}
@@ -13,6 +13,7 @@ use Rattle.base_rows.specs.Lists.{AreNodes, IsPlaced, IsWithin, link_of}
 use Rattle.base_rows.specs.BaseRows.{ids_of}
 use Rattle.op_model.specs.Ingest.{ingested, IsFirstSpent}
 use Rattle.octree_layers.specs.declared.layers.Layer.{Layer}
+use Rattle.hierarchy_build.specs.Links.{AreBuilt}
 use Rattle.hierarchy_build.specs.declared.errors.BuildError.{BuildError}
 use Rattle.hierarchy_build.specs.declared.errors.BuildError.TheVariants.{IdsSpent, TooSmall, NoMemory}
 use Rattle.octree_layers.specs.declared.errors.LayersError.{LayersError}
@@ -27,6 +28,14 @@ pub record AreLists (d : Dataset) (b : Base) (ls : List Layer) (x : BaseLists) :
   pub nodes_are : AreNodes (chunks d b) x.nodes.items (all_nodes b ls)
   pub links_are : (now : ℕ) → map (link_of (b.supervoxels ++ ids_of (all_nodes b ls)) (ids_of (all_nodes b ls))) x.links.items ≡ new_links d b (ingested d b now) 0
   pub within : All (IsWithin (b.supervoxels ++ ids_of (all_nodes b ls)) (ids_of (all_nodes b ls))) x.links.items
+
+-- the lists of a base whose records can be had
+pub record IsListed (d : Dataset) (b : Base) (x : BaseLists) : Type 0 where
+  pub layers : List Layer
+  pub built : AreBuilt d b layers
+  pub lists : AreLists d b layers x
+  pub fit : (now : ℕ) → LabelsFit d b (ingested d b now)
+  pub fits : (now : ℕ) → records d b (ingested d b now) ≤ d.capacity
 
 -- the chunk that was named by its id is named by its coordinates
 abbrev pub Tells : Dataset → LayersError → BuildError → Type 0

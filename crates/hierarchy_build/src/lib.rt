@@ -21,7 +21,7 @@ mod errors;
 mod laws;
 mod linking;
 
-pub use building::build;
+pub use building::{build, build_from};
 pub use chunking::{base_chunks, base_nodes, chunk_count};
 pub use counting::records_of;
 pub use errors::BuildError;

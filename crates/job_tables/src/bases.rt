@@ -14,7 +14,7 @@ ghost use Rattle.job_tables.specs.Made.{IsMade, IsShort, MakesStop, Named, NotNa
 use crate::tables::JobBase;
 use crate::texts::{Tables, Texts};
 use call_lines::Stop;
-use hierarchy_build::{BuildError, build};
+use hierarchy_build::{BuildError, build_from};
 use node_ids::Layout;
 use op_model::{Base, Dataset};
 use pcg_base::{Ticks, VecWords};
@@ -114,18 +114,18 @@ fn numbers_of(alloc: Global, schedule: &Option<Vec<u8>>, clients: u32) -> Result
     }
 }
 
-/// The words of a base's first entry, at a clock's first time.
-fn words_of(alloc: Global, dataset: &Dataset, base: &Base, clock: &Ticks) -> Result<VecWords, Stop>
+/// The words of a base's first entry, at a clock's first time. The base is let go.
+fn words_of(alloc: Global, dataset: &Dataset, base: Base, clock: &Ticks) -> Result<VecWords, Stop>
     requires dataset { IsDataset dataset.now }
-    requires base { IsBase dataset.now base.now }
+    requires base { IsBase dataset.now base }
     ensures image { IfOk result
-        (λ w. Image dataset.now base.now (ingested dataset.now base.now (clock_time clock.now 0))
+        (λ w. Image dataset.now base (ingested dataset.now base (clock_time clock.now 0))
         w.words) }
     ensures room { IfOk result (λ w. 8 * dataset.now.capacity ≤ length w.words + w.spare) }
-    ensures fits { OnOk result ((e : TheBuildError) → IsFull dataset.now base.now e → ⊥) }
-    ensures stop { IfErr result (StopsForRecords (IsFull dataset.now base.now)) }
+    ensures fits { OnOk result ((e : TheBuildError) → IsFull dataset.now base e → ⊥) }
+    ensures stop { IfErr result (StopsForRecords (IsFull dataset.now base)) }
 {
-    match build(alloc, base, dataset, clock.time(0)) {
+    match build_from(alloc, base, dataset, clock.time(0)) {
         Ok(words) => Ok(words),
         Err(error) => Err(records_stop(error)),
     }
@@ -149,7 +149,7 @@ pub fn make_input(alloc: Global, job: &RehearseJob, texts: Texts) -> Result<JobB
         Err(stop) => return Err(stop),
     };
     drop(texts);
-    match words_of(alloc, &dataset, &base, &job.clock) {
+    match words_of(alloc, &dataset, base, &job.clock) {
         Ok(words) => Ok(JobBase {
             dataset,
             words,

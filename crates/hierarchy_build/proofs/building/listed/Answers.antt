@@ -2,7 +2,7 @@ use Rattle.std.proofs.Common.{arith, sym, subst, refl}
 use Rattle.hierarchy_build.specs.Links.{AreBuilt}
 use Rattle.hierarchy_build.proofs.LayerChunks.{chunks_few}
 use Rattle.hierarchy_build.proofs.WholeRows.{refused_so}
-use Rattle.hierarchy_build.proofs.building.build.Goals as goal
+use Rattle.hierarchy_build.proofs.building.listed.Goals as goal
 
 pub returns-in-Err-clause-refused : goal.returns-in-Err-clause-refused
 returns-in-Err-clause-refused c = refused_so c.args.dataset.now c.args.base.now c.in-Err.error c.error_of.result c.error_of.ensures c.in-Err.ensures.spent
