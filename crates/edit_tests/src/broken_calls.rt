@@ -39,7 +39,7 @@ const ALONE_LOG: &str =
 
 /// Where a client's file fails behind so many lines or replies: how many entries the log has, and
 /// the summary.
-const BROKEN: [(&str, usize, usize, &str); 10] = [
+const ROWS: [(&str, usize, usize, &str); 10] = [
     (
         "first.req",
         0,
@@ -262,7 +262,7 @@ fn broken_out(alloc: Global, at: &str, done: usize) -> Result<Vec<u8>, Fail> {
     let is_alone = at == "first.req" && done == 0;
     let log = spelled(alloc, if is_alone { ALONE_LOG } else { LOG })?;
     let mut out = Vec::new(alloc);
-    for (name, lines, entries, summary) in BROKEN {
+    for (name, lines, entries, summary) in ROWS {
         if name == at && lines == done {
             out.extend_from_slice(lines_of(log.as_slice(), entries))?;
             out.extend_from_slice(summary.as_bytes())?;
@@ -290,7 +290,7 @@ fn broken(alloc: Global, fault: &Fault<'_>, front: &[u8]) -> Result<Wanted, Fail
 }
 
 /// What a call comes to where one call of a device failed, before which this went through.
-pub fn wanted(alloc: Global, fault: &Fault<'_>, front: &[u8]) -> Result<Wanted, Fail> {
+pub fn wanted_at(alloc: Global, fault: &Fault<'_>, front: &[u8]) -> Result<Wanted, Fail> {
     match fault.at {
         "supervoxels.csv" => stopped(alloc, "supervoxels"),
         "edges.csv" => stopped(alloc, "edges"),

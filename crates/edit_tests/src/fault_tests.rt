@@ -1,6 +1,6 @@
 //! Two clients that edit, while each single call of a device fails in turn.
 
-use crate::broken_calls::{Wanted, before, both, calls_of, served, text_at, wanted, whole_out};
+use crate::broken_calls::{Wanted, before, both, calls_of, served, text_at, wanted_at, whole_out};
 use crate::sessions::{Fault, Outside, Ran, call_of};
 use std::alloc::Global;
 use std::test::Fail;
@@ -75,7 +75,7 @@ fn ends_so(alloc: Global, fault: &Fault<'_>, single: bool, is_met: bool) -> Resu
     let ran = call_of(alloc, &both(), &outside)?;
     let text = text_at(alloc, fault.at)?;
     let want = if is_met {
-        wanted(alloc, fault, before(text.as_slice(), fault, single))?
+        wanted_at(alloc, fault, before(text.as_slice(), fault, single))?
     } else {
         served(alloc, 0, whole_out(alloc)?.as_slice())?
     };
