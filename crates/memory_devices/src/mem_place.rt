@@ -155,6 +155,26 @@ impl MemPlace {
         Some(self.kept[i].file.bytes.as_slice())
     }
 
+    /// How many reads failed of the sources that were kept back at a name.
+    pub fn source_faults_at(&self, name: &str) -> u64
+        ensures { result ≡ (counts_by self.now name.now).source_faults }
+    {
+        let Some(i) = place_of(&self.kept, name) else {
+            return 0;
+        };
+        self.kept[i].source_faults
+    }
+
+    /// How many writes and flushes failed of the sinks that were kept back at a name.
+    pub fn sink_faults_at(&self, name: &str) -> u64
+        ensures { result ≡ (counts_by self.now name.now).sink_faults }
+    {
+        let Some(i) = place_of(&self.kept, name) else {
+            return 0;
+        };
+        self.kept[i].sink_faults
+    }
+
     /// Notes that no file has the name.
     fn miss(&mut self, name: &str) -> PlaceError
         ensures kept { self.new.kept ≡ self.old.kept }

@@ -1,5 +1,5 @@
-//! Tests of what the server meets of the outside, and of the program's call over it. Nothing here is
-//! proved but the tests.
+//! Tests of what the server meets of the outside, and of the program's call over it. Sessions of
+//! clients that edit stand in `edit_tests`. Nothing here is proved but the tests.
 //!
 //! - `outside_tests`: streams, places, times, gates and words in memory, each at its happy path and at
 //!   calls that fail
@@ -12,9 +12,7 @@
 //! - `session_tests`: the lines of a client's stream, given one by one from reads of several sizes, and
 //!   a stream that breaks off
 //! - `make_tests`: files that are made from a number, and one that fails
-//! - `edit_tests`: sessions of one to three clients that edit, word by word: merges, splits, undos and
-//!   redos, refusals, a schedule, a reply that isn't written, and long lines
-//! - `samples`, `calls`, `edit_sessions`: two tables, requests, and what a call makes of them
+//! - `samples`, `calls`: two tables, requests, and what a call makes of them
 //! - `shut_place`: a place that opens nothing for writing
 #![tactic(auto)]
 
@@ -22,10 +20,6 @@
 mod calls;
 #[cfg(test)]
 mod device_tests;
-#[cfg(test)]
-mod edit_sessions;
-#[cfg(test)]
-mod edit_tests;
 #[cfg(test)]
 mod make_tests;
 #[cfg(test)]

@@ -1,7 +1,6 @@
 //! Worked sessions of clients that edit.
 
-use crate::edit_sessions::{Session, TWO, alone, runs, runs_with};
-use crate::samples::{EDGES, SUPERVOXELS};
+use crate::sessions::{EDGES, Fault, Outside, SUPERVOXELS, Session, TWO, alone, runs, runs_with};
 use std::alloc::Global;
 use std::test::Fail;
 
@@ -279,7 +278,18 @@ fn a_reply_that_is_not_written(rt: HostRuntime) -> Result<(), Fail> {
         summary: "{\"accepted\":1,\"clients\":2,\"entries\":2,\"faults\":[[1,\"WriteFault\"]],\"lines\":3,\"records\":34,\"refused\":0,\"roots\":1,\"status\":4}\n",
         status: 4,
     };
-    assert!(rt; runs_with(rt.alloc(), &session, &[3])?);
+    let third = Fault {
+        at: "first.ans",
+        flush: false,
+        number: 3,
+    };
+    let faults = [third];
+    let outside = Outside {
+        single: false,
+        old: "",
+        faults: faults.as_slice(),
+    };
+    assert!(rt; runs_with(rt.alloc(), &session, &outside)?);
     Ok(())
 }
 
