@@ -12,6 +12,7 @@ use Rattle.call_lines.specs.declared.summary.ClientFault.{ClientFault}
 use Rattle.call_lines.specs.declared.summary.Fault.{Fault}
 use Rattle.call_lines.specs.declared.summary.Fault.TheVariants as faults
 use Rattle.call_lines.specs.declared.summary.Summary.{Summary}
+use Rattle.call_lines.specs.Statuses.{code}
 
 -- the name of a file in a fault line
 unfoldable pub file_name : FileName → List ℕ
@@ -84,7 +85,7 @@ summary_line accepted clients entries faults lines records refused roots status 
     ∷ member (codes "refused") (decimal refused) ∷ member (codes "roots") (decimal roots) ∷ member (codes "status") (decimal status) ∷ [])
 
 abbrev pub summary_text : Summary → List ℕ
-summary_text s = summary_line s.accepted s.clients s.entries s.faults.items s.lines s.records s.refused s.roots s.status
+summary_text s = summary_line s.accepted s.clients s.entries s.faults.items s.lines s.records s.refused s.roots (code s.status)
 
 -- the line of a call that made all files
 unfoldable pub made_line : ℕ → ℕ → ℕ → List ℕ

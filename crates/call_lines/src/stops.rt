@@ -9,6 +9,7 @@ ghost use Rattle.call_lines.specs.Texts.{file_name, of_capacity, of_chunk, of_fi
 ghost use Rattle.table_ingest.specs.Faults.{cause_name, table_name};
 ghost use Rattle.call_lines.specs.Statuses.{status_of};
 
+use crate::status::Status;
 use pcg_base::{Failed, Sink};
 use request_lines::Page;
 use table_ingest::{Cause, Table};
@@ -78,19 +79,19 @@ pub enum Stop {
 
 impl Stop {
     /// The status that the call answers.
-    pub fn status(&self) -> u8
+    pub fn status(&self) -> Status
         ensures { result ≡ status_of self.now }
     {
         match self {
-            Stop::BadWords => 1,
-            Stop::ReadFault { .. } => 2,
-            Stop::WriteFault { .. } => 4,
-            Stop::TooLong { .. } => 7,
-            Stop::BadTable { .. } => 3,
-            Stop::BadSchedule { .. } => 3,
-            Stop::IdsSpent { .. } => 6,
-            Stop::TooSmall { .. } => 6,
-            Stop::NoMemory => 5,
+            Stop::BadWords => Status::BadWords,
+            Stop::ReadFault { .. } => Status::ReadFault,
+            Stop::WriteFault { .. } => Status::WriteFault,
+            Stop::TooLong { .. } => Status::TooLong,
+            Stop::BadTable { .. } => Status::BadInput,
+            Stop::BadSchedule { .. } => Status::BadInput,
+            Stop::IdsSpent { .. } => Status::Full,
+            Stop::TooSmall { .. } => Status::Full,
+            Stop::NoMemory => Status::NoMemory,
         }
     }
 }

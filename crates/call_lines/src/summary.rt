@@ -8,6 +8,7 @@ ghost use Rattle.request_lines.specs.Sent.{Puts};
 ghost use Rattle.call_lines.specs.Statuses.{fault_status};
 ghost use Rattle.call_lines.specs.Texts.{client_fault_text, fault_name, summary_text};
 
+use crate::status::Status;
 use pcg_base::{Failed, Sink};
 use request_lines::{Page, Written, put_list};
 
@@ -24,13 +25,13 @@ pub enum Fault {
 
 impl Fault {
     /// The status that the call answers, where this is the fault of the least client with one.
-    pub fn status(&self) -> u8
+    pub fn status(&self) -> Status
         ensures { result ≡ fault_status self.now }
     {
         match self {
-            Fault::ReadFault => 2,
-            Fault::WriteFault => 4,
-            Fault::TooLong => 7,
+            Fault::ReadFault => Status::ReadFault,
+            Fault::WriteFault => Status::WriteFault,
+            Fault::TooLong => Status::TooLong,
         }
     }
 }
@@ -64,7 +65,7 @@ pub struct Summary {
     /// How many roots aren't retired.
     pub roots: u64,
     /// The status that the call answers, where the output doesn't fail.
-    pub status: u8,
+    pub status: Status,
 }
 
 /// The name of a session's fault.
@@ -104,7 +105,7 @@ fn put_summary<K: Sink>(page: &mut Page, out: &mut K, summary: &Summary)
     page.put_number(out, b",\"records\":", summary.records);
     page.put_number(out, b",\"refused\":", summary.refused);
     page.put_number(out, b",\"roots\":", summary.roots);
-    page.put_number(out, b",\"status\":", summary.status as u64);
+    page.put_number(out, b",\"status\":", summary.status.code() as u64);
     page.put(out, b"}\n");
 }
 

@@ -197,7 +197,8 @@ pub fn call(
         &clock,
         &OpenGate,
         &mut out,
-    );
+    )
+    .code();
     Ok(Ran { status, place, out })
 }
 

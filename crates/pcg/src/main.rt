@@ -7,29 +7,24 @@
 #![tactic(auto)]
 
 use pcg_base::{OpenGate, write_all};
+use pcg_serve::Status;
 use std::process::ExitCode;
 use system_devices::{Folder, Outgoing, SystemClock, words};
 use usage_texts::write_usage;
-
-/// The status if the words are no job.
-const BAD_WORDS: u8 = 1;
-
-/// The status if memory was refused.
-const NO_MEMORY: u8 = 5;
 
 fn main(rt: HostRuntime) -> ExitCode {
     let alloc = rt.alloc();
     let mut out = Outgoing::new(rt.stdout());
     let Ok(words) = words(&rt, alloc) else {
         let _ = write_all(&mut out, b"{\"fault\":\"NoMemory\"}\n");
-        return ExitCode::from(NO_MEMORY);
+        return ExitCode::from(Status::NoMemory.code());
     };
     let mut place = Folder::new(&rt, alloc);
     let clock = SystemClock::new(&rt);
     let status = pcg_serve::run(alloc, &words, &mut place, &clock, &OpenGate, &mut out);
-    if status == BAD_WORDS {
+    if status == Status::BadWords {
         let mut told = Outgoing::new(rt.stderr());
         let _ = write_usage(&words, &mut told);
     }
-    ExitCode::from(status)
+    ExitCode::from(status.code())
 }

@@ -8,6 +8,8 @@ use Rattle.pcg_words.specs.declared.job.Job.{Job}
 use Rattle.pcg_words.specs.declared.job.Job.TheVariants as job
 use Rattle.pcg_words.specs.declared.job.MakeJob.{MakeJob}
 use Rattle.pcg_words.specs.declared.job.RehearseJob.{RehearseJob}
+use Rattle.call_lines.specs.declared.status.Status.{Status}
+use Rattle.call_lines.specs.declared.status.Status.TheVariants as statuses
 use Rattle.job_files.specs.Kept.{KeepsOther}
 use Rattle.made_files.specs.Files.{files_of}
 use Rattle.made_files.specs.Writing.{KeepsBut}
@@ -19,25 +21,25 @@ use Rattle.pcg_serve.specs.Calls.{IsFaultless, IsJobDone, IsJobDue, IsJobFine, J
 use Rattle.pcg_serve.specs.Making.{IsMade, MakeOutcome}
 use Rattle.pcg_serve.proofs.Made.{stop_known, stop_rose}
 
-not_both : {A : Type 0} (n a b : ℕ) → n ≡ a → n ≡ b → (a ≡ b → ⊥) → A
+not_both : {A : Type 0} (n a b : Status) → n ≡ a → n ≡ b → (a ≡ b → ⊥) → A
 not_both n a b e f d = absurd (d (sym e ∙ f))
 
-module _ (old new : PlaceState) (out out' : SinkState) (status : ℕ) where
-  lost : {A : Type 0} → WordsLost old new out out' status → status ≡ 0 → A
-  lost w z = not_both status 5 0 w.1 z (λ e. omega (arith, e))
+module _ (old new : PlaceState) (out out' : SinkState) (status : Status) where
+  lost : {A : Type 0} → WordsLost old new out out' status → status ≡ statuses.Done → A
+  lost w z = not_both status statuses.NoMemory statuses.Done w.1 z (λ e. cc)
 
   -- all files were made, and the line about them was printed
-  made_done : (found : MakeJob) → (new.reads ≡ old.reads) × MakeOutcome found old new out out' status → status ≡ 0 → IsMade found old.files new.files out out' × IsFaultless old new out out'
+  made_done : (found : MakeJob) → (new.reads ≡ old.reads) × MakeOutcome found old new out out' status → status ≡ statuses.Done → IsMade found old.files new.files out out' × IsFaultless old new out out'
   made_done found (r, inl h) z = elim h.2 [
     | inl p ↦ ((h.0, p.0), (r, h.1, p.1))
-    | inr p ↦ not_both status 4 0 p.2 z (λ e. omega (arith, e))
+    | inr p ↦ not_both status statuses.WriteFault statuses.Done p.2 z (λ e. cc)
   ]
   made_done found (r, inr h) z = elim (stop_known h.0) [
-    | inl k ↦ not_both status 4 0 (h.3 ∙ k) z (λ e. omega (arith, e))
-    | inr k ↦ not_both status 5 0 (h.3 ∙ k) z (λ e. omega (arith, e))
+    | inl k ↦ not_both status statuses.WriteFault statuses.Done (h.3 ∙ k) z (λ e. cc)
+    | inr k ↦ not_both status statuses.NoMemory statuses.Done (h.3 ∙ k) z (λ e. cc)
   ]
 
-  made_tells : (found : MakeJob) → MakeOutcome found old new out out' status → (status ≡ 0) ⊎ (status ≡ 5) ⊎ ((status ≡ 4) × (Rose old.writes new.writes ⊎ Rose out.faults out'.faults))
+  made_tells : (found : MakeJob) → MakeOutcome found old new out out' status → (status ≡ statuses.Done) ⊎ (status ≡ statuses.NoMemory) ⊎ ((status ≡ statuses.WriteFault) × (Rose old.writes new.writes ⊎ Rose out.faults out'.faults))
   made_tells found (inl h) = elim h.2 [
     | inl p ↦ inl p.2
     | inr p ↦ inr (inr (p.2, inr p.1))
@@ -47,16 +49,16 @@ module _ (old new : PlaceState) (out out' : SinkState) (status : ℕ) where
     | inr k ↦ inr (inl (h.3 ∙ k))
   ]
 
-  pub job_done : (j : Option Job) → JobOutcome j old new out out' status → status ≡ 0 → IsJobDone j old new out out'
-  job_done None (inl h) z = not_both status 1 0 h.1 z (λ e. omega (arith, e))
+  pub job_done : (j : Option Job) → JobOutcome j old new out out' status → status ≡ statuses.Done → IsJobDone j old new out out'
+  job_done None (inl h) z = not_both status statuses.BadWords statuses.Done h.1 z (λ e. cc)
   job_done None (inr h) z = lost h z
   job_done (Some (job.Rehearse found)) (inl h) z = is_done found old new out out' status h z
   job_done (Some (job.Rehearse found)) (inr h) z = lost h z
   job_done (Some (job.Make found)) (inl h) z = (made_done found h z).0
   job_done (Some (job.Make found)) (inr h) z = lost h z
 
-  pub job_faultless : (j : Option Job) → JobOutcome j old new out out' status → status ≡ 0 → IsFaultless old new out out'
-  job_faultless None (inl h) z = not_both status 1 0 h.1 z (λ e. omega (arith, e))
+  pub job_faultless : (j : Option Job) → JobOutcome j old new out out' status → status ≡ statuses.Done → IsFaultless old new out out'
+  job_faultless None (inl h) z = not_both status statuses.BadWords statuses.Done h.1 z (λ e. cc)
   job_faultless None (inr h) z = lost h z
   job_faultless (Some (job.Rehearse found)) (inl h) z = is_faultless found old new out out' status h z
   job_faultless (Some (job.Rehearse found)) (inr h) z = lost h z
@@ -71,19 +73,19 @@ module _ (old new : PlaceState) (out out' : SinkState) (status : ℕ) where
   job_tells (Some (job.Make found)) (inl h) = made_tells found h.1
   job_tells (Some (job.Make found)) (inr h) = inr (inl h.1)
 
-  pub job_due : (j : Option Job) → JobOutcome j old new out out' status → (s : ℕ) → IsJobDue old.files j s → (status ≡ s) ⊎ (status ≡ 2) ⊎ (status ≡ 5)
+  pub job_due : (j : Option Job) → JobOutcome j old new out out' status → (s : Status) → IsJobDue old.files j s → (status ≡ s) ⊎ (status ≡ statuses.ReadFault) ⊎ (status ≡ statuses.NoMemory)
   job_due None h s d = absurd d
   job_due (Some (job.Rehearse found)) (inl h) s d = due found old new out out' status h s d
   job_due (Some (job.Rehearse found)) (inr h) s d = inr (inr h.1)
   job_due (Some (job.Make found)) h s d = absurd d
 
-  pub job_complete : (j : Option Job) → JobOutcome j old new out out' status → IsQuiet old new out out' → IsJobFine old.files j → (status ≡ 0) ⊎ (status ≡ 5)
+  pub job_complete : (j : Option Job) → JobOutcome j old new out out' status → IsQuiet old new out out' → IsJobFine old.files j → (status ≡ statuses.Done) ⊎ (status ≡ statuses.NoMemory)
   job_complete None h q f = absurd f
   job_complete (Some (job.Rehearse found)) (inl h) q f = complete found old new out out' status h q f
   job_complete (Some (job.Rehearse found)) (inr h) q f = inr h.1
   job_complete (Some (job.Make found)) (inl h) q f = quiet (made_tells found h.1)
     where
-      quiet : (status ≡ 0) ⊎ (status ≡ 5) ⊎ ((status ≡ 4) × (Rose old.writes new.writes ⊎ Rose out.faults out'.faults)) → (status ≡ 0) ⊎ (status ≡ 5)
+      quiet : (status ≡ statuses.Done) ⊎ (status ≡ statuses.NoMemory) ⊎ ((status ≡ statuses.WriteFault) × (Rose old.writes new.writes ⊎ Rose out.faults out'.faults)) → (status ≡ statuses.Done) ⊎ (status ≡ statuses.NoMemory)
       quiet (inl z) = inl z
       quiet (inr (inl n)) = inr n
       quiet (inr (inr (four, inl r))) = absurd (q.1 r)
@@ -91,11 +93,11 @@ module _ (old new : PlaceState) (out out' : SinkState) (status : ℕ) where
   job_complete (Some (job.Make found)) (inr h) q f = inr h.1
 
 -- the same of a job whose mode is known
-pub rehearsed_outcome : (j : Job) (found : RehearseJob) (old new : PlaceState) (out out' : SinkState) (status : ℕ) → j ≡ job.Rehearse found → Outcome found old new out out' status
+pub rehearsed_outcome : (j : Job) (found : RehearseJob) (old new : PlaceState) (out out' : SinkState) (status : Status) → j ≡ job.Rehearse found → Outcome found old new out out' status
     → JobOutcome (Some j) old new out out' status
 rehearsed_outcome j found old new out out' status e h = subst (λ (x : Job). JobOutcome (Some x) old new out out' status) (sym e) (inl h)
 
-pub made_outcome : (j : Job) (found : MakeJob) (old new : PlaceState) (out out' : SinkState) (status : ℕ) → j ≡ job.Make found → new.reads ≡ old.reads
+pub made_outcome : (j : Job) (found : MakeJob) (old new : PlaceState) (out out' : SinkState) (status : Status) → j ≡ job.Make found → new.reads ≡ old.reads
     → MakeOutcome found old new out out' status → JobOutcome (Some j) old new out out' status
 made_outcome j found old new out out' status e r h = subst (λ (x : Job). JobOutcome (Some x) old new out out' status) (sym e) (inl (r, h))
 

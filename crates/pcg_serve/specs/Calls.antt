@@ -5,6 +5,8 @@ use Rattle.pcg_base.specs.States.{PlaceState, SinkState}
 use Rattle.pcg_base.specs.Told.{Files, KeepsFiles}
 use Rattle.pcg_words.specs.declared.job.Job.{Job}
 use Rattle.pcg_words.specs.declared.job.Job.TheVariants as job
+use Rattle.call_lines.specs.declared.status.Status.{Status}
+use Rattle.call_lines.specs.declared.status.Status.TheVariants as statuses
 use Rattle.call_lines.specs.declared.stops.Stop.TheVariants as stops
 use Rattle.call_lines.specs.Printing.{Prints}
 use Rattle.call_lines.specs.Texts.{stop_text}
@@ -16,13 +18,13 @@ use Rattle.rehearsal.specs.Outcomes.{IsDone, Outcome, answers_of}
 use Rattle.pcg_serve.specs.Making.{IsMade, MakeOutcome}
 
 -- memory ran out over the words, and no file changed
-abbrev pub WordsLost : PlaceState → PlaceState → SinkState → SinkState → ℕ → Type 0
-WordsLost old new out out' status = KeepsFiles old.files new.files × (status ≡ 5) × Prints out out' (stop_text stops.NoMemory)
+abbrev pub WordsLost : PlaceState → PlaceState → SinkState → SinkState → Status → Type 0
+WordsLost old new out out' status = KeepsFiles old.files new.files × (status ≡ statuses.NoMemory) × Prints out out' (stop_text stops.NoMemory)
 
 -- The words spell no job, and no file changed; or the outcome is that of their job's mode, or memory ran out over them.
-abbrev pub JobOutcome : Option Job → PlaceState → PlaceState → SinkState → SinkState → ℕ → Type 0
+abbrev pub JobOutcome : Option Job → PlaceState → PlaceState → SinkState → SinkState → Status → Type 0
 JobOutcome None old new out out' status =
-    (KeepsFiles old.files new.files × (status ≡ 1) × Prints out out' (stop_text stops.BadWords)) ⊎ WordsLost old new out out' status
+    (KeepsFiles old.files new.files × (status ≡ statuses.BadWords) × Prints out out' (stop_text stops.BadWords)) ⊎ WordsLost old new out out' status
 JobOutcome (Some (job.Rehearse found)) old new out out' status =
     Outcome found old new out out' status ⊎ WordsLost old new out out' status
 JobOutcome (Some (job.Make found)) old new out out' status =
@@ -43,14 +45,14 @@ abbrev pub NoneFell : PlaceState → PlaceState → Type 0
 NoneFell old new = (old.reads ≤ new.reads) × (old.writes ≤ new.writes)
 
 -- what a status tells: 1 comes just where the words spell no job, and 5 at any time
-abbrev pub JobTells : Option Job → PlaceState → PlaceState → SinkState → SinkState → ℕ → Type 0
-JobTells None old new out out' status = (status ≡ 1) ⊎ (status ≡ 5)
+abbrev pub JobTells : Option Job → PlaceState → PlaceState → SinkState → SinkState → Status → Type 0
+JobTells None old new out out' status = (status ≡ statuses.BadWords) ⊎ (status ≡ statuses.NoMemory)
 JobTells (Some (job.Rehearse found)) old new out out' status = Tells found old new out out' status
 JobTells (Some (job.Make found)) old new out out' status =
-    (status ≡ 0) ⊎ (status ≡ 5) ⊎ ((status ≡ 4) × (Rose old.writes new.writes ⊎ Rose out.faults out'.faults))
+    (status ≡ statuses.Done) ⊎ (status ≡ statuses.NoMemory) ⊎ ((status ≡ statuses.WriteFault) × (Rose old.writes new.writes ⊎ Rose out.faults out'.faults))
 
 -- the status that the input of the words' job asks for
-abbrev pub IsJobDue : Option Files → Option Job → ℕ → Type 0
+abbrev pub IsJobDue : Option Files → Option Job → Status → Type 0
 IsJobDue m None status = ⊥
 IsJobDue m (Some (job.Rehearse found)) status = IsDue m found status
 IsJobDue m (Some (job.Make found)) status = ⊥

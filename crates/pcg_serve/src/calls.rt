@@ -3,11 +3,13 @@
 ghost use Rattle.std.specs.Prelude.{◌≡◌, ◌≤◌, ◌⊎◌, ℕ, Some};
 ghost use Rattle.pcg_base.specs.Told.{IsFlushed};
 ghost use Rattle.pcg_words.specs.Words.{MeetsMode, job_of};
+ghost use Rattle.call_lines.specs.declared.status.Status.{Status as TheStatus};
+ghost use Rattle.call_lines.specs.declared.status.Status.TheVariants as statuses;
 ghost use Rattle.rehearsal.specs.Exact.{IsQuiet};
 ghost use Rattle.pcg_serve.specs.Calls.{IsFaultless, IsJobDone, IsJobDue, IsJobFine, JobOutcome, JobTells, KeepsJobOthers, NoneFell};
 
 use crate::making::run_make;
-use call_lines::Stop;
+use call_lines::{Status, Stop};
 use pcg_base::{Clock, Gate, Place, Sink};
 use pcg_words::{Job, WordsError, read_words};
 use rehearsal::{run_rehearse, stopped};
@@ -23,7 +25,7 @@ pub fn run<P: Place, C: Clock + Sync, G: Gate + Sync, K: Sink>(
     _: &C,
     _: &G,
     out: &mut K,
-) -> u8
+) -> Status
 where
     P::In: Drop,
     P::Out: Drop,
@@ -31,20 +33,20 @@ where
     ensures outcome { JobOutcome (job_of words.now) (P.state place.old) (P.state place.new)
         (K.state out.old) (K.state out.new) result }
     // status 0
-    ensures done { result ≡ 0
+    ensures done { result ≡ statuses.Done
         → IsJobDone (job_of words.now) (P.state place.old) (P.state place.new) (K.state out.old)
         (K.state out.new) }
-    ensures faultless { result ≡ 0
+    ensures faultless { result ≡ statuses.Done
         → IsFaultless (P.state place.old) (P.state place.new) (K.state out.old) (K.state out.new) }
-    ensures flushed { result ≡ 0 → IsFlushed (K.state out.new).held (K.state out.new).flushed }
+    ensures flushed { result ≡ statuses.Done → IsFlushed (K.state out.new).held (K.state out.new).flushed }
     // other statuses: what each tells, which one an input asks for, and that an input of its form gets 0
     ensures tells { JobTells (job_of words.now) (P.state place.old) (P.state place.new)
         (K.state out.old) (K.state out.new) result }
-    ensures due { (s : ℕ) → IsJobDue (P.state place.old).files (job_of words.now) s
-        → (result ≡ s) ⊎ (result ≡ 2) ⊎ (result ≡ 5) }
+    ensures due { (s : TheStatus) → IsJobDue (P.state place.old).files (job_of words.now) s
+        → (result ≡ s) ⊎ (result ≡ statuses.ReadFault) ⊎ (result ≡ statuses.NoMemory) }
     ensures complete { IsQuiet (P.state place.old) (P.state place.new) (K.state out.old)
         (K.state out.new)
-        → IsJobFine (P.state place.old).files (job_of words.now) → (result ≡ 0) ⊎ (result ≡ 5) }
+        → IsJobFine (P.state place.old).files (job_of words.now) → (result ≡ statuses.Done) ⊎ (result ≡ statuses.NoMemory) }
     // whatever it answers
     ensures others { KeepsJobOthers (job_of words.now) (P.state place.old).files
         (P.state place.new).files }
@@ -55,13 +57,18 @@ where
 }
 
 /// Does the job of the words.
-fn do_words<P: Place, K: Sink>(alloc: Global, words: &[Vec<u8>], place: &mut P, out: &mut K) -> u8
+fn do_words<P: Place, K: Sink>(
+    alloc: Global,
+    words: &[Vec<u8>],
+    place: &mut P,
+    out: &mut K,
+) -> Status
 where
     P::In: Drop,
     P::Out: Drop,
     ensures outcome { JobOutcome (job_of words.now) (P.state place.old) (P.state place.new)
         (K.state out.old) (K.state out.new) result }
-    ensures flushed { result ≡ 0 → IsFlushed (K.state out.new).held (K.state out.new).flushed }
+    ensures flushed { result ≡ statuses.Done → IsFlushed (K.state out.new).held (K.state out.new).flushed }
     ensures others { KeepsJobOthers (job_of words.now) (P.state place.old).files
         (P.state place.new).files }
     ensures later { NoneFell (P.state place.old) (P.state place.new) }
@@ -75,14 +82,14 @@ where
 }
 
 /// Does a job, by its mode.
-fn do_job<P: Place, K: Sink>(alloc: Global, job: &Job, place: &mut P, out: &mut K) -> u8
+fn do_job<P: Place, K: Sink>(alloc: Global, job: &Job, place: &mut P, out: &mut K) -> Status
 where
     P::In: Drop,
     P::Out: Drop,
     requires { MeetsMode job.now }
     ensures outcome { JobOutcome (Some job.now) (P.state place.old) (P.state place.new)
         (K.state out.old) (K.state out.new) result }
-    ensures flushed { result ≡ 0 → IsFlushed (K.state out.new).held (K.state out.new).flushed }
+    ensures flushed { result ≡ statuses.Done → IsFlushed (K.state out.new).held (K.state out.new).flushed }
     ensures others { KeepsJobOthers (Some job.now) (P.state place.old).files
         (P.state place.new).files }
     ensures later { NoneFell (P.state place.old) (P.state place.new) }

@@ -17,6 +17,7 @@
 mod calls;
 mod making;
 
+pub use call_lines::Status;
 pub use calls::run;
 pub use making::run_make;
 pub use pcg_words::{Job, MakeJob, Name, Names, RehearseJob, WordsError, read_words};

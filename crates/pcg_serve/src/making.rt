@@ -10,10 +10,11 @@ ghost use Rattle.made_files.specs.Writing.{KeepsBut};
 ghost use Rattle.made_input.specs.Texts.{input_of};
 ghost use Rattle.made_files.specs.Files.{wish_of};
 ghost use Rattle.request_lines.specs.Sent.{Puts};
+ghost use Rattle.call_lines.specs.declared.status.Status.TheVariants as statuses;
 ghost use Rattle.pcg_serve.specs.Making.{MadePrinted, MakeOutcome, made_text, stop_of};
 ghost use Rattle.call_lines.specs.Texts.{made_line};
 
-use call_lines::{FileName, Stop};
+use call_lines::{FileName, Status, Stop};
 use made_files::{MadeFile, MakeStop, make_files};
 use pcg_base::{Failed, Place, Sink};
 use pcg_words::MakeJob;
@@ -80,17 +81,17 @@ fn write_made<K: Sink>(edges: u64, lines: u64, supervoxels: u64, out: &mut K) ->
 }
 
 /// Writes the line of a call that made all files, and answers the status.
-fn finish_made<K: Sink>(job: &MakeJob, edges: u32, out: &mut K) -> u8
+fn finish_made<K: Sink>(job: &MakeJob, edges: u32, out: &mut K) -> Status
     requires few { (length job.now.stems ≤ 64) × (job.now.requests ≤ 100000) }
     requires edges { edges ≡ (input_of (wish_of job.now)).edge_count }
     ensures printed { MadePrinted (K.state out.old) (K.state out.new) (made_text job.now) result }
-    ensures flushed { result ≡ 0 → IsFlushed (K.state out.new).held (K.state out.new).flushed }
+    ensures flushed { result ≡ statuses.Done → IsFlushed (K.state out.new).held (K.state out.new).flushed }
     ensures later { (K.state out.old).faults ≤ (K.state out.new).faults }
 {
     let lines = job.stems.list.len() as u64 * job.requests;
     match write_made(edges as u64, lines, job.size, out) {
-        Ok(()) => 0,
-        Err(Failed) => 4,
+        Ok(()) => Status::Done,
+        Err(Failed) => Status::WriteFault,
     }
 }
 
@@ -100,9 +101,14 @@ fn finish_made<K: Sink>(job: &MakeJob, edges: u32, out: &mut K) -> u8
 /// - 0: done;
 /// - 4: a write or an opening for writing failed, or `out` did;
 /// - 5: memory ran out.
-pub fn run_make<P: Place, K: Sink>(alloc: Global, job: &MakeJob, place: &mut P, out: &mut K) -> u8
+pub fn run_make<P: Place, K: Sink>(
+    alloc: Global,
+    job: &MakeJob,
+    place: &mut P,
+    out: &mut K,
+) -> Status
     requires { IsMake job.now }
-    ensures flushed { result ≡ 0 → IsFlushed (K.state out.new).held (K.state out.new).flushed }
+    ensures flushed { result ≡ statuses.Done → IsFlushed (K.state out.new).held (K.state out.new).flushed }
     ensures outcome { MakeOutcome job.now (P.state place.old) (P.state place.new) (K.state out.old)
         (K.state out.new) result }
     ensures others { KeepsBut (files_of job.now) (P.state place.old).files

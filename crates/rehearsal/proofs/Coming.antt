@@ -7,6 +7,7 @@ use Rattle.histories.proofs.EachLog.{ids_stay, leaves_are_joined, roots_are_join
 use Rattle.pcg_base.specs.States.{PlaceState, SinkState}
 use Rattle.pcg_words.specs.declared.job.RehearseJob.{RehearseJob}
 use Rattle.pcg_words.specs.Job.{IsRehearse}
+use Rattle.call_lines.specs.declared.status.Status.{Status}
 use Rattle.call_lines.specs.Texts.{summary_line}
 use Rattle.call_lines.specs.declared.stops.Stop.{Stop}
 use Rattle.log_lines.specs.LogTexts.{log_text}
@@ -59,7 +60,7 @@ module _ (job : RehearseJob) (old new : PlaceState) (done : SessionsDone) (q : I
         play = s.play;
       }
 
-  pub came_out : (out out' : SinkState) (status : ℕ)
+  pub came_out : (out out' : SinkState) (status : Status)
       → Printed out out' (whole_text (dataset_of job) q.base q.served.log (length job.stems) done.faults.items done.lines done.refused) (status_for done.faults.items) status
       → Outcome job old new out out' status
   came_out out out' status p = inr (_, _, came_past, p)

@@ -13,6 +13,8 @@ use Rattle.pcg_words.specs.declared.job.RehearseJob.{RehearseJob}
 use Rattle.schedules.specs.Schedules.{schedule_of}
 use Rattle.table_ingest.specs.Bases.{Faulty, Spells}
 use Rattle.table_ingest.proofs.BaseLemmas.{base_or_fault, one_base as bases_are_one}
+use Rattle.call_lines.specs.declared.status.Status.{Status}
+use Rattle.call_lines.specs.declared.status.Status.TheVariants as statuses
 use Rattle.call_lines.specs.declared.stops.Stop.{Stop}
 use Rattle.call_lines.specs.declared.stops.Stop.TheVariants as stops
 use Rattle.call_lines.specs.Statuses.{status_of}
@@ -23,8 +25,8 @@ use Rattle.rehearsal.specs.Outcomes.{HasInput, Outcome, StopCause}
 use Rattle.rehearsal.proofs.Exact.{long_stop}
 
 -- the status is the one that is asked for, or that of a fault of reading or of want of memory
-abbrev Ends : ℕ → ℕ → Type 0
-Ends status s = (status ≡ s) ⊎ (status ≡ 2) ⊎ (status ≡ 5)
+abbrev Ends : Status → Status → Type 0
+Ends status s = (status ≡ s) ⊎ (status ≡ statuses.ReadFault) ⊎ (status ≡ statuses.NoMemory)
 
 -- a name has one file
 one_file : (m : Files) (name xs ys : List ℕ) → get m name ≡ Some xs → get m name ≡ Some ys → xs ≡ ys
@@ -101,13 +103,13 @@ none_long m left job r (inr more) = go more.2
     go (inr long) = read_short m left job.schedule r.1 long.2
 
 -- a call that stopped for a text that is too long
-long_due : (m : Files) (job : RehearseJob) → HasLongText (Some m) job → (s : ℕ) → IsDue (Some m) job s → Ends 7 s
+long_due : (m : Files) (job : RehearseJob) → HasLongText (Some m) job → (s : Status) → IsDue (Some m) job s → Ends statuses.TooLong s
 long_due m job long s (inl d) = absurd (d.1 long)
 long_due m job long s (inr (inl d)) = inl (sym d.0)
 long_due m job long s (inr (inr d)) = absurd (full_short m job d.1 long)
 
 -- for a record of a table
-table_due : (m : Files) (left : List ℕ → List ℕ) (job : RehearseJob) → HasBadTable (Some m) job → AllRead (Some m) left job → (s : ℕ) → IsDue (Some m) job s → Ends 3 s
+table_due : (m : Files) (left : List ℕ → List ℕ) (job : RehearseJob) → HasBadTable (Some m) job → AllRead (Some m) left job → (s : Status) → IsDue (Some m) job s → Ends statuses.BadInput s
 table_due m left job bad r s (inl d) = inl (sym d.0)
 table_due m left job bad r s (inr (inl d)) = absurd (none_long m left job r d.1)
 table_due m left job bad r s (inr (inr d)) =
@@ -115,13 +117,13 @@ table_due m left job bad r s (inr (inr d)) =
     absurd (no_fault m job full.0 bad full.1)
 
 -- for a word of the schedule
-word_due : (m : Files) (left : List ℕ → List ℕ) (job : RehearseJob) → HasBadSchedule (Some m) job → AllRead (Some m) left job → (s : ℕ) → IsDue (Some m) job s → Ends 3 s
+word_due : (m : Files) (left : List ℕ → List ℕ) (job : RehearseJob) → HasBadSchedule (Some m) job → AllRead (Some m) left job → (s : Status) → IsDue (Some m) job s → Ends statuses.BadInput s
 word_due m left job bad r s (inl d) = inl (sym d.0)
 word_due m left job bad r s (inr (inl d)) = absurd (none_long m left job r d.1)
 word_due m left job bad r s (inr (inr d)) = absurd (not_bad m job d.1.0.0 d.1.0.1 bad)
 
 -- for a base whose records can't be had
-full_due : (m : Files) (left : List ℕ → List ℕ) (job : RehearseJob) → HasFullBase (Some m) job → AllRead (Some m) left job → (s : ℕ) → IsDue (Some m) job s → Ends 6 s
+full_due : (m : Files) (left : List ℕ → List ℕ) (job : RehearseJob) → HasFullBase (Some m) job → AllRead (Some m) left job → (s : Status) → IsDue (Some m) job s → Ends statuses.Full s
 full_due m left job full r s (inl d) = absurd (go d.2)
   where
     go : HasBadTable (Some m) job ⊎ HasBadSchedule (Some m) job → ⊥
@@ -133,7 +135,7 @@ full_due m left job full r s (inr (inl d)) = absurd (none_long m left job r d.1)
 full_due m left job full r s (inr (inr d)) = inl (sym d.0)
 
 -- an input that was read and is of its form asks for no status
-none_due : (m : Files) (left : List ℕ → List ℕ) (job : RehearseJob) → HasInput (Some m) job → AllRead (Some m) left job → (s : ℕ) → IsDue (Some m) job s → ⊥
+none_due : (m : Files) (left : List ℕ → List ℕ) (job : RehearseJob) → HasInput (Some m) job → AllRead (Some m) left job → (s : Status) → IsDue (Some m) job s → ⊥
 none_due m left job h r s (inl d) = go d.2
   where
     go : HasBadTable (Some m) job ⊎ HasBadSchedule (Some m) job → ⊥
@@ -146,7 +148,7 @@ none_due m left job h r s (inr (inr d)) = not_full m job h.0 h.1 h.2 d.1
 abbrev telling : Files → PlaceState → PlaceState
 telling m s = record s { files = Some m }
 
-stop_due : (m : Files) (job : RehearseJob) (old new : PlaceState) (stop : Stop) → InputStop job (telling m old) new stop → (s : ℕ) → IsDue (Some m) job s → Ends (status_of stop) s
+stop_due : (m : Files) (job : RehearseJob) (old new : PlaceState) (stop : Stop) → InputStop job (telling m old) new stop → (s : Status) → IsDue (Some m) job s → Ends (status_of stop) s
 stop_due m job old new stops.BadWords t s d = absurd t
 stop_due m job old new (stops.ReadFault client file) t s d = inr (inl refl)
 stop_due m job old new (stops.WriteFault client file) t s d = absurd t
@@ -157,8 +159,8 @@ stop_due m job old new (stops.IdsSpent layer x y z) t s d = full_due m new.left 
 stop_due m job old new (stops.TooSmall need given) t s d = full_due m new.left job (t.1, builds.TooSmall need given, t.0) t.2 s d
 stop_due m job old new stops.NoMemory t s d = inr (inr refl)
 
-told_due : (m : Files) (job : RehearseJob) (old new : PlaceState) (out out' : SinkState) (status : ℕ) → Outcome job (telling m old) new out out' status
-    → (s : ℕ) → IsDue (Some m) job s → Ends status s
+told_due : (m : Files) (job : RehearseJob) (old new : PlaceState) (out out' : SinkState) (status : Status) → Outcome job (telling m old) new out out' status
+    → (s : Status) → IsDue (Some m) job s → Ends status s
 told_due m job old new out out' status (inl h) s d = subst (λ n. Ends n s) (sym h.1) (go h.2)
   where
     go : StopCause job (telling m old) new h.0 → Ends (status_of h.0) s
@@ -168,8 +170,8 @@ told_due m job old new out out' status (inr h) s d =
     let p = h.2 in
     absurd (none_due m new.left job (p.base, p.has_base, p.fits, p.schedule, p.has_schedule) p.read s d)
 
-pub due : (job : RehearseJob) (old new : PlaceState) (out out' : SinkState) (status : ℕ) → Outcome job old new out out' status
-    → (s : ℕ) → IsDue old.files job s → (status ≡ s) ⊎ (status ≡ 2) ⊎ (status ≡ 5)
+pub due : (job : RehearseJob) (old new : PlaceState) (out out' : SinkState) (status : Status) → Outcome job old new out out' status
+    → (s : Status) → IsDue old.files job s → (status ≡ s) ⊎ (status ≡ statuses.ReadFault) ⊎ (status ≡ statuses.NoMemory)
 due job old new out out' status o s d = go old.files refl d
   where
     go : (files : Option Files) → old.files ≡ files → IsDue files job s → Ends status s

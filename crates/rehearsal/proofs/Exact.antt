@@ -16,6 +16,8 @@ use Rattle.pcg_base.specs.States.{PlaceState, SinkState}
 use Rattle.pcg_base.specs.Told.{Files, IsLongerAt}
 use Rattle.pcg_words.specs.declared.job.RehearseJob.{RehearseJob}
 use Rattle.pcg_words.specs.Job.{answer_file, request_file}
+use Rattle.call_lines.specs.declared.status.Status.{Status}
+use Rattle.call_lines.specs.declared.status.Status.TheVariants as statuses
 use Rattle.call_lines.specs.declared.stops.FileName.{FileName}
 use Rattle.call_lines.specs.declared.stops.FileName.TheVariants as files
 use Rattle.call_lines.specs.declared.stops.Stop.{Stop}
@@ -29,7 +31,7 @@ use Rattle.rehearsal.specs.Exact.{HasBadSchedule, HasBadTable, HasLongStream, Ha
 use Rattle.rehearsal.specs.Outcomes.{CamePast, ClientsStop, IsDone, Outcome, Printed, StopCause, at_fault}
 
 -- a call that stopped before its sessions has no status 0
-never_zero : (stop : Stop) → status_of stop ≡ 0 → ⊥
+never_zero : (stop : Stop) → status_of stop ≡ statuses.Done → ⊥
 never_zero stops.BadWords e = cc
 never_zero (stops.ReadFault client file) e = cc
 never_zero (stops.WriteFault client file) e = cc
@@ -41,49 +43,64 @@ never_zero (stops.TooSmall need given) e = cc
 never_zero stops.NoMemory e = cc
 
 -- the status behind a failed output
-fault_is : (n : ℕ) → ((n ≡ 0) × (at_fault n ≡ 4)) ⊎ (at_fault n ≡ n)
+fault_is : (n : Status) → ((n ≡ statuses.Done) × (at_fault n ≡ statuses.WriteFault)) ⊎ (at_fault n ≡ n)
 unfolding at_fault
-fault_is n = go (n == 0) refl
-  where
-    go : (none : Bool) → (n == 0) ≡ none → ((n ≡ 0) × (at_fault n ≡ 4)) ⊎ (at_fault n ≡ n)
-    go true e = inl (eqb-true n 0 e, ap (λ b. if b then 4 else n) e)
-    go false e = inr (ap (λ b. if b then 4 else n) e)
+fault_is statuses.Done = inl (refl, refl)
+fault_is statuses.BadWords = inr refl
+fault_is statuses.ReadFault = inr refl
+fault_is statuses.BadInput = inr refl
+fault_is statuses.WriteFault = inr refl
+fault_is statuses.NoMemory = inr refl
+fault_is statuses.Full = inr refl
+fault_is statuses.TooLong = inr refl
 
-zero_fault : at_fault 0 ≡ 4
+done_fault : at_fault statuses.Done ≡ statuses.WriteFault
 unfolding at_fault
-zero_fault = refl
+done_fault = refl
+
+not_done : statuses.WriteFault ≡ statuses.Done → ⊥
+not_done x = cc
+
+lost_done : statuses.NoMemory ≡ statuses.Done → ⊥
+lost_done x = cc
 
 -- a status 0 is that of sessions without a fault, behind which all was printed
-all_printed : (out out' : SinkState) (text : List ℕ) (ended status : ℕ) → Printed out out' text ended status → status ≡ 0
-    → Appends out.held out'.held text × (out'.faults ≡ out.faults) × (ended ≡ 0)
+all_printed : (out out' : SinkState) (text : List ℕ) (ended status : Status) → Printed out out' text ended status → status ≡ statuses.Done
+    → Appends out.held out'.held text × (out'.faults ≡ out.faults) × (ended ≡ statuses.Done)
 all_printed out out' text ended status (inl h) z = (h.0, h.1, sym h.2 ∙ z)
 all_printed out out' text ended status (inr (inl h)) z = absurd (go (fault_is ended))
   where
-    go : ((ended ≡ 0) × (at_fault ended ≡ 4)) ⊎ (at_fault ended ≡ ended) → ⊥
-    go (inl f) = omega (arith, f.1, h.2, z)
+    go : ((ended ≡ statuses.Done) × (at_fault ended ≡ statuses.WriteFault)) ⊎ (at_fault ended ≡ ended) → ⊥
+    go (inl f) = not_done (sym f.1 ∙ sym h.2 ∙ z)
     go (inr f) =
-        let e : ended ≡ 0 = sym f ∙ sym h.2 ∙ z in
-        let four : at_fault ended ≡ 4 = subst (λ n. at_fault n ≡ 4) (sym e) zero_fault in
-        omega (arith, four, h.2, z)
-all_printed out out' text ended status (inr (inr h)) z = absurd (omega (arith, h.2, z))
+        let e : ended ≡ statuses.Done = sym f ∙ sym h.2 ∙ z in
+        let four : at_fault ended ≡ statuses.WriteFault = subst (λ n. at_fault n ≡ statuses.WriteFault) (sym e) done_fault in
+        not_done (sym four ∙ sym h.2 ∙ z)
+all_printed out out' text ended status (inr (inr h)) z = absurd (lost_done (sym h.2 ∙ z))
 
-pub is_done : (job : RehearseJob) (old new : PlaceState) (out out' : SinkState) (status : ℕ) → Outcome job old new out out' status → status ≡ 0 → IsDone job old new out out'
+pub is_done : (job : RehearseJob) (old new : PlaceState) (out out' : SinkState) (status : Status) → Outcome job old new out out' status → status ≡ statuses.Done → IsDone job old new out out'
 is_done job old new out out' status (inl h) z = absurd (never_zero h.0 (sym h.1 ∙ z))
 is_done job old new out out' status (inr h) z =
     let p = all_printed out out' h.0 h.1 status h.3 z in
     (h.0, subst (λ n. CamePast job old new h.0 n) p.2 h.2, p.0)
 
+read_done : statuses.ReadFault ≡ statuses.Done → ⊥
+read_done x = cc
+
+long_done : statuses.TooLong ≡ statuses.Done → ⊥
+long_done x = cc
+
 -- one session without a fault, ahead of others
-one_well : (client : ℕ) (ending : StreamEnd) (last : Option Reply) (rs : List SessionResult) → status_for (fault_at client (fault_for (is_some last) ending) ++ faults_from (client + 1) rs) ≡ 0
-    → (broke ending ≡ false) × (last ≡ None) × (status_for (faults_from (client + 1) rs) ≡ 0)
+one_well : (client : ℕ) (ending : StreamEnd) (last : Option Reply) (rs : List SessionResult) → status_for (fault_at client (fault_for (is_some last) ending) ++ faults_from (client + 1) rs) ≡ statuses.Done
+    → (broke ending ≡ false) × (last ≡ None) × (status_for (faults_from (client + 1) rs) ≡ statuses.Done)
 unfolding status_for fault_for
 one_well client ends.Whole None rs e = (refl, refl, e)
-one_well client ends.Broken None rs e = absurd (omega (arith, e))
-one_well client ends.TooLong None rs e = absurd (omega (arith, e))
-one_well client ending (Some r) rs e = absurd (omega (arith, e))
+one_well client ends.Broken None rs e = absurd (read_done e)
+one_well client ends.TooLong None rs e = absurd (long_done e)
+one_well client ending (Some r) rs e = absurd (not_done e)
 
 -- where no session ended in a fault no stream was broken, and no reply failed
-all_well : (client : ℕ) (rs : List SessionResult) → status_for (faults_from client rs) ≡ 0 → AllByRecursion (λ r. broke r.ending ≡ false) rs × AllByRecursion (λ r. r.last ≡ None) rs
+all_well : (client : ℕ) (rs : List SessionResult) → status_for (faults_from client rs) ≡ statuses.Done → AllByRecursion (λ r. broke r.ending ≡ false) rs × AllByRecursion (λ r. r.last ≡ None) rs
 unfolding faults_from fault_of
 all_well client [] e = (tt, tt)
 all_well client (r ∷ rs) e =
@@ -91,7 +108,7 @@ all_well client (r ∷ rs) e =
     let more = all_well (client + 1) rs one.2 in
     ((one.0, more.0), (one.1, more.1))
 
-pub is_faultless : (job : RehearseJob) (old new : PlaceState) (out out' : SinkState) (status : ℕ) → Outcome job old new out out' status → status ≡ 0
+pub is_faultless : (job : RehearseJob) (old new : PlaceState) (out out' : SinkState) (status : Status) → Outcome job old new out out' status → status ≡ statuses.Done
     → (new.reads ≡ old.reads) × (new.writes ≡ old.writes) × (out'.faults ≡ out.faults)
 is_faultless job old new out out' status (inl h) z = absurd (never_zero h.0 (sym h.1 ∙ z))
 is_faultless job old new out out' status (inr h) z =
@@ -101,12 +118,12 @@ is_faultless job old new out out' status (inr h) z =
     (past.history.reads well.0, past.history.writes well.1, p.1)
 
 -- What the status of sessions tells.
-abbrev Ended : Option Files → List (List ℕ) → PlaceState → PlaceState → ℕ → Type 0
+abbrev Ended : Option Files → List (List ℕ) → PlaceState → PlaceState → Status → Type 0
 Ended m stems old new status =
-    (status ≡ 0) ⊎ ((status ≡ 2) × Rose old.reads new.reads) ⊎ ((status ≡ 4) × Rose old.writes new.writes)
-    ⊎ ((status ≡ 7) × (k : ℕ) × (name : List ℕ) × (slice_get (map request_file stems) k ≡ Some name) × IsLongerAt m name limit)
+    (status ≡ statuses.Done) ⊎ ((status ≡ statuses.ReadFault) × Rose old.reads new.reads) ⊎ ((status ≡ statuses.WriteFault) × Rose old.writes new.writes)
+    ⊎ ((status ≡ statuses.TooLong) × (k : ℕ) × (name : List ℕ) × (slice_get (map request_file stems) k ≡ Some name) × IsLongerAt m name limit)
 
-one_more : (m : Option Files) (stem : List ℕ) (stems : List (List ℕ)) (old new : PlaceState) (status : ℕ) → Ended m stems old new status → Ended m (stem ∷ stems) old new status
+one_more : (m : Option Files) (stem : List ℕ) (stems : List (List ℕ)) (old new : PlaceState) (status : Status) → Ended m stems old new status → Ended m (stem ∷ stems) old new status
 one_more m stem stems old new status (inl h) = inl h
 one_more m stem stems old new status (inr (inl h)) = inr (inl h)
 one_more m stem stems old new status (inr (inr (inl h))) = inr (inr (inl h))
@@ -140,23 +157,23 @@ all_ended d b log old new client (stem ∷ stems) (r ∷ rs) h =
     let c = h.0 in
     one_ended client stem stems old new r.ending r.last c.taken r.lines rs c.stream c.lines c.reads c.writes (all_ended d b log old new (client + 1) stems rs h.1)
 
-past_ended : (job : RehearseJob) (old new : PlaceState) (text : List ℕ) (ended : ℕ) → CamePast job old new text ended → Ended old.files job.stems old new ended
+past_ended : (job : RehearseJob) (old new : PlaceState) (text : List ℕ) (ended : Status) → CamePast job old new text ended → Ended old.files job.stems old new ended
 past_ended job old new text ended p =
     subst (λ n. Ended old.files job.stems old new n) (sym p.history.status) (all_ended (dataset_of job) p.base p.log old new 1 job.stems p.results p.history.clients)
 
 -- what sessions tell is told by the call that answers their status
-ended_tells : (job : RehearseJob) (old new : PlaceState) (out out' : SinkState) (ended status : ℕ) → status ≡ ended → Ended old.files job.stems old new ended → Tells job old new out out' status
+ended_tells : (job : RehearseJob) (old new : PlaceState) (out out' : SinkState) (ended status : Status) → status ≡ ended → Ended old.files job.stems old new ended → Tells job old new out out' status
 ended_tells job old new out out' ended status e (inl h) = inl (e ∙ h)
 ended_tells job old new out out' ended status e (inr (inl h)) = inr (inr (inl (e ∙ h.0, h.1)))
 ended_tells job old new out out' ended status e (inr (inr (inl h))) = inr (inr (inr (inr (inl (e ∙ h.0, inl h.1)))))
 ended_tells job old new out out' ended status e (inr (inr (inr h))) = inr (inr (inr (inr (inr (inr (e ∙ h.0, inr (h.1, h.2, h.3, h.4)))))))
 
-past_tells : (job : RehearseJob) (old new : PlaceState) (out out' : SinkState) (text : List ℕ) (ended status : ℕ) → CamePast job old new text ended → Printed out out' text ended status
+past_tells : (job : RehearseJob) (old new : PlaceState) (out out' : SinkState) (text : List ℕ) (ended status : Status) → CamePast job old new text ended → Printed out out' text ended status
     → Tells job old new out out' status
 past_tells job old new out out' text ended status p (inl h) = ended_tells job old new out out' ended status h.2 (past_ended job old new text ended p)
 past_tells job old new out out' text ended status p (inr (inl h)) = go (fault_is ended)
   where
-    go : ((ended ≡ 0) × (at_fault ended ≡ 4)) ⊎ (at_fault ended ≡ ended) → Tells job old new out out' status
+    go : ((ended ≡ statuses.Done) × (at_fault ended ≡ statuses.WriteFault)) ⊎ (at_fault ended ≡ ended) → Tells job old new out out' status
     go (inl f) = inr (inr (inr (inr (inl (h.2 ∙ f.1, inr h.1)))))
     go (inr f) = ended_tells job old new out out' ended status (h.2 ∙ f) (past_ended job old new text ended p)
 past_tells job old new out out' text ended status p (inr (inr h)) = inr (inl h.2)
@@ -221,7 +238,7 @@ clients_tell job old new out out' (stops.IdsSpent layer x y z) t = absurd t
 clients_tell job old new out out' (stops.TooSmall need given) t = absurd t
 clients_tell job old new out out' stops.NoMemory t = inr (inl refl)
 
-pub tells : (job : RehearseJob) (old new : PlaceState) (out out' : SinkState) (status : ℕ) → Outcome job old new out out' status → Tells job old new out out' status
+pub tells : (job : RehearseJob) (old new : PlaceState) (out out' : SinkState) (status : Status) → Outcome job old new out out' status → Tells job old new out out' status
 tells job old new out out' status (inl h) = subst (λ n. Tells job old new out out' n) (sym h.1) (go h.2)
   where
     go : StopCause job old new h.0 → Tells job old new out out' (status_of h.0)
@@ -229,8 +246,8 @@ tells job old new out out' status (inl h) = subst (λ n. Tells job old new out o
     go (inr t) = clients_tell job old new out out' h.0 t.2
 tells job old new out out' status (inr h) = past_tells job old new out out' h.0 h.1 status h.2 h.3
 
-pub complete : (job : RehearseJob) (old new : PlaceState) (out out' : SinkState) (status : ℕ) → Outcome job old new out out' status → IsQuiet old new out out' → IsFine old.files job
-    → (status ≡ 0) ⊎ (status ≡ 5)
+pub complete : (job : RehearseJob) (old new : PlaceState) (out out' : SinkState) (status : Status) → Outcome job old new out out' status → IsQuiet old new out out' → IsFine old.files job
+    → (status ≡ statuses.Done) ⊎ (status ≡ statuses.NoMemory)
 complete job old new out out' status o quiet fine = go (tells job old new out out' status o)
   where
     no_table : HasBadTable old.files job ⊎ HasBadSchedule old.files job → ⊥
@@ -245,7 +262,7 @@ complete job old new out out' status o quiet fine = go (tells job old new out ou
     none_long (inl x) = fine.texts x
     none_long (inr x) = fine.streams x
 
-    go : Tells job old new out out' status → (status ≡ 0) ⊎ (status ≡ 5)
+    go : Tells job old new out out' status → (status ≡ statuses.Done) ⊎ (status ≡ statuses.NoMemory)
     go (inl x) = inl x
     go (inr (inl x)) = inr x
     go (inr (inr (inl x))) = absurd (quiet.0 x.1)

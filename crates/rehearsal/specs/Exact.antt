@@ -10,6 +10,8 @@ use Rattle.table_ingest.specs.declared.errors.Table.{Table}
 use Rattle.table_ingest.specs.declared.errors.Cause.{Cause}
 use Rattle.job_tables.specs.Inputs.{HasBadWord, HasBase, HasFault, HasSchedule, HasText, IsFullSo, limit}
 use Rattle.job_tables.specs.Stops.{ScheduleLong}
+use Rattle.call_lines.specs.declared.status.Status.{Status}
+use Rattle.call_lines.specs.declared.status.Status.TheVariants as statuses
 use Rattle.rehearsal.specs.Outcomes.{requests_of}
 
 -- a record of a table has a cause
@@ -35,22 +37,22 @@ abbrev pub HasLongStream : Option Files → RehearseJob → Type 0
 HasLongStream m job = (k : ℕ) × (name : List ℕ) × (slice_get (requests_of job) k ≡ Some name) × IsLongerAt m name limit
 
 -- where the place tells its bytes, the status that the tables and the schedule ask for, unless a fault or want of memory comes first
-abbrev pub IsDue : Option Files → RehearseJob → ℕ → Type 0
+abbrev pub IsDue : Option Files → RehearseJob → Status → Type 0
 IsDue None job status = ⊥
 IsDue (Some m) job status =
-    ((status ≡ 3) × (¬ (HasLongText (Some m) job)) × (HasBadTable (Some m) job ⊎ HasBadSchedule (Some m) job))
-    ⊎ ((status ≡ 7) × HasLongText (Some m) job)
-    ⊎ ((status ≡ 6) × HasFullBase (Some m) job)
+    ((status ≡ statuses.BadInput) × (¬ (HasLongText (Some m) job)) × (HasBadTable (Some m) job ⊎ HasBadSchedule (Some m) job))
+    ⊎ ((status ≡ statuses.TooLong) × HasLongText (Some m) job)
+    ⊎ ((status ≡ statuses.Full) × HasFullBase (Some m) job)
 
 -- What a status that isn't 0 or 5 tells.
-abbrev pub Tells : RehearseJob → PlaceState → PlaceState → SinkState → SinkState → ℕ → Type 0
+abbrev pub Tells : RehearseJob → PlaceState → PlaceState → SinkState → SinkState → Status → Type 0
 Tells job old new out out' status =
-    (status ≡ 0) ⊎ (status ≡ 5)
-    ⊎ ((status ≡ 2) × Rose old.reads new.reads)
-    ⊎ ((status ≡ 3) × (HasBadTable old.files job ⊎ HasBadSchedule old.files job))
-    ⊎ ((status ≡ 4) × (Rose old.writes new.writes ⊎ Rose out.faults out'.faults))
-    ⊎ ((status ≡ 6) × HasFullBase old.files job)
-    ⊎ ((status ≡ 7) × (HasLongText old.files job ⊎ HasLongStream old.files job))
+    (status ≡ statuses.Done) ⊎ (status ≡ statuses.NoMemory)
+    ⊎ ((status ≡ statuses.ReadFault) × Rose old.reads new.reads)
+    ⊎ ((status ≡ statuses.BadInput) × (HasBadTable old.files job ⊎ HasBadSchedule old.files job))
+    ⊎ ((status ≡ statuses.WriteFault) × (Rose old.writes new.writes ⊎ Rose out.faults out'.faults))
+    ⊎ ((status ≡ statuses.Full) × HasFullBase old.files job)
+    ⊎ ((status ≡ statuses.TooLong) × (HasLongText old.files job ⊎ HasLongStream old.files job))
 
 -- no count rose
 abbrev pub IsQuiet : PlaceState → PlaceState → SinkState → SinkState → Type 0

@@ -12,6 +12,7 @@ use Rattle.pcg_base.specs.declared.clock.Ticks.{Ticks}
 use Rattle.histories.specs.Histories.{EntriesOwned, IdsStay, LeavesAreJoined, RootsAreJoined, live_roots}
 use Rattle.log_lines.specs.LogTexts.{log_text}
 use Rattle.client_answers.specs.Plays.{IsPlay}
+use Rattle.call_lines.specs.declared.status.Status.{Status}
 use Rattle.call_lines.specs.Texts.{summary_line}
 use Rattle.job_tables.specs.Inputs.{clock_time}
 use Rattle.session_results.specs.Results.{Replied, SessionResult, clients_of, faults_from, refusal_count, reply_count, status_for}
@@ -19,7 +20,7 @@ use Rattle.rehearsal.specs.Clients.{AllClients, broke}
 
 module _ (d : Dataset) (b : Base) (log : List Entry) (results : List SessionResult) where
   -- One legal history stands behind all that was answered and printed: each of its entries is of one of the clients, each client's replies are a transcript over it, roots and leaves are components at each published time, and what is printed are its lines and the summary.
-  pub record History (old new : PlaceState) (stems : List (List ℕ)) (text : List ℕ) (ended : ℕ) : Type 0 where
+  pub record History (old new : PlaceState) (stems : List (List ℕ)) (text : List ℕ) (ended : Status) : Type 0 where
     pub legal : Legal d b log
     pub owned : EntriesOwned (length stems) log
     pub clients : AllClients d b log old new 1 stems results

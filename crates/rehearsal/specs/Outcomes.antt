@@ -11,6 +11,8 @@ use Rattle.pcg_base.specs.States.{PlaceState, SinkState}
 use Rattle.pcg_base.specs.Told.{AppendsFront, Files, KeepsFiles}
 use Rattle.pcg_words.specs.declared.job.RehearseJob.{RehearseJob}
 use Rattle.pcg_words.specs.Job.{answer_file, request_file}
+use Rattle.call_lines.specs.declared.status.Status.{Status}
+use Rattle.call_lines.specs.declared.status.Status.TheVariants as statuses
 use Rattle.call_lines.specs.declared.stops.FileName.TheVariants as files
 use Rattle.call_lines.specs.declared.stops.Stop.{Stop}
 use Rattle.call_lines.specs.declared.stops.Stop.TheVariants as stops
@@ -67,7 +69,7 @@ StopCause job old new stop =
     ⊎ (HasInput old.files job × AllRead old.files new.left job × ClientsStop job old new stop)
 
 -- A call came past its sessions: what was read spells a base and a schedule, and one history over the base stands behind what was answered and is to be printed. It is that of the play of the schedule, with the clock of the words.
-pub record CamePast (job : RehearseJob) (old new : PlaceState) (text : List ℕ) (ended : ℕ) : Type 0 where
+pub record CamePast (job : RehearseJob) (old new : PlaceState) (text : List ℕ) (ended : Status) : Type 0 where
   pub base : Base
   pub has_base : HasBase old.files job base
   pub fits : (e : BuildError) → IsFull (dataset_of job) base e → ⊥
@@ -80,22 +82,23 @@ pub record CamePast (job : RehearseJob) (old new : PlaceState) (text : List ℕ)
   pub play : IsPlayOf (dataset_of job) base log results job.clock schedule
 
 -- the status of a call whose output failed, where that of its sessions is this
-unfoldable pub at_fault : ℕ → ℕ
-at_fault ended = if ended == 0 then 4 else ended
+unfoldable pub at_fault : Status → Status
+at_fault statuses.Done = statuses.WriteFault
+at_fault ended = ended
 
 -- the text was printed; or the output failed, and it has a front of the text; or memory ran out over an entry of the log, and it has a front too
-abbrev pub Printed : SinkState → SinkState → List ℕ → ℕ → ℕ → Type 0
+abbrev pub Printed : SinkState → SinkState → List ℕ → Status → Status → Type 0
 Printed out out' text ended status =
     (Appends out.held out'.held text × (out'.faults ≡ out.faults) × (status ≡ ended))
     ⊎ (AppendsFront out.held out'.held text × Rose out.faults out'.faults × (status ≡ at_fault ended))
-    ⊎ (AppendsFront out.held out'.held text × (out'.faults ≡ out.faults) × (status ≡ 5))
+    ⊎ (AppendsFront out.held out'.held text × (out'.faults ≡ out.faults) × (status ≡ statuses.NoMemory))
 
 -- A call stopped before its sessions, by this cause and with these files, with this fault line alone; or it came past them, and printed the log and the summary.
-abbrev pub Outcome : RehearseJob → PlaceState → PlaceState → SinkState → SinkState → ℕ → Type 0
+abbrev pub Outcome : RehearseJob → PlaceState → PlaceState → SinkState → SinkState → Status → Type 0
 Outcome job old new out out' status =
     ((stop : Stop) × (status ≡ status_of stop) × StopCause job old new stop × Prints out out' (stop_text stop))
-    ⊎ ((text : List ℕ) × (ended : ℕ) × CamePast job old new text ended × Printed out out' text ended status)
+    ⊎ ((text : List ℕ) × (ended : Status) × CamePast job old new text ended × Printed out out' text ended status)
 
 -- the call came past its sessions, none ended in a fault, and all was printed
 abbrev pub IsDone : RehearseJob → PlaceState → PlaceState → SinkState → SinkState → Type 0
-IsDone job old new out out' = (text : List ℕ) × CamePast job old new text 0 × Appends out.held out'.held text
+IsDone job old new out out' = (text : List ℕ) × CamePast job old new text statuses.Done × Appends out.held out'.held text

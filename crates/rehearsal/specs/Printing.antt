@@ -7,6 +7,7 @@ use Rattle.op_model.specs.Records.{records}
 use Rattle.histories.specs.Histories.{live_roots}
 use Rattle.log_lines.specs.declared.writing.LogCounts.{LogCounts}
 use Rattle.log_lines.specs.LogTexts.{log_text}
+use Rattle.call_lines.specs.Statuses.{code}
 use Rattle.call_lines.specs.declared.summary.ClientFault.{ClientFault}
 use Rattle.call_lines.specs.declared.summary.Summary.{Summary}
 use Rattle.call_lines.specs.Texts.{summary_line}
@@ -15,7 +16,7 @@ use Rattle.session_results.specs.Results.{status_for}
 -- the log and the summary of so many clients with these faults
 abbrev pub whole_text : Dataset → Base → List Entry → ℕ → List ClientFault → ℕ → ℕ → List ℕ
 whole_text d b log clients faults lines refused =
-    log_text log ++ summary_line (length log - 1) clients (length log) faults lines (records d b log) refused (length (live_roots log)) (status_for faults)
+    log_text log ++ summary_line (length log - 1) clients (length log) faults lines (records d b log) refused (length (live_roots log)) (code (status_for faults))
 
 -- a summary tells of these counts
 pub record Sums (clients : ℕ) (counts : LogCounts) (faults : List ClientFault) (lines refused : ℕ) (s : Summary) : Type 0 where

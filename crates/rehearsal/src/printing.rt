@@ -5,6 +5,7 @@ ghost use Rattle.pcg_base.specs.Told.{IsFlushed};
 ghost use Rattle.op_model.specs.Records.{records};
 ghost use Rattle.record_rows.specs.Readings.{ForEachLog, Image};
 ghost use Rattle.log_rows.specs.Entries.{HasLog};
+ghost use Rattle.call_lines.specs.declared.status.Status.TheVariants as statuses;
 ghost use Rattle.call_lines.specs.Printing.{Prints};
 ghost use Rattle.call_lines.specs.Statuses.{status_of};
 ghost use Rattle.call_lines.specs.Texts.{stop_text, summary_text};
@@ -12,7 +13,7 @@ ghost use Rattle.session_results.specs.Results.{status_for};
 ghost use Rattle.rehearsal.specs.Outcomes.{Printed, at_fault};
 ghost use Rattle.rehearsal.specs.Printing.{Sums, whole_text};
 
-use call_lines::{ClientFault, Stop, Summary, write_stop, write_summary};
+use call_lines::{ClientFault, Status, Stop, Summary, write_stop, write_summary};
 use log_lines::{LogCounts, LogError, write_log};
 use pcg_base::{Sink, VecWords};
 use session_results::SessionsDone;
@@ -20,21 +21,30 @@ use std::alloc::Global;
 
 /// The status of a call with these faults, where its output doesn't fail.
 #[tactic(auto, unfolding(session_results::specs::Results::status_for))]
-fn status_for(faults: &[ClientFault]) -> u8
+fn status_for(faults: &[ClientFault]) -> Status
     ensures { result ≡ status_for faults.now }
 {
     match faults.first() {
-        None => 0,
+        None => Status::Done,
         Some(first) => first.fault.status(),
     }
 }
 
 /// The status where the output failed.
 #[tactic(auto, unfolding(crate::specs::Outcomes::at_fault))]
-fn at_fault(ended: u8) -> u8
+fn at_fault(ended: Status) -> Status
     ensures { result ≡ at_fault ended }
 {
-    if ended == 0 { 4 } else { ended }
+    match ended {
+        Status::Done => Status::WriteFault,
+        Status::BadWords => Status::BadWords,
+        Status::ReadFault => Status::ReadFault,
+        Status::BadInput => Status::BadInput,
+        Status::WriteFault => Status::WriteFault,
+        Status::NoMemory => Status::NoMemory,
+        Status::Full => Status::Full,
+        Status::TooLong => Status::TooLong,
+    }
 }
 
 /// What a call came to that came past its sessions.
@@ -63,10 +73,10 @@ fn summary_of(
 }
 
 /// Writes a summary behind a log that was written, and answers the status.
-fn end_with<K: Sink>(summary: &Summary, out: &mut K) -> u8
+fn end_with<K: Sink>(summary: &Summary, out: &mut K) -> Status
     ensures printed { Printed (K.state out.old) (K.state out.new) (summary_text summary.now)
         summary.now.status result }
-    ensures flushed { result ≡ 0 → IsFlushed (K.state out.new).held (K.state out.new).flushed }
+    ensures flushed { result ≡ statuses.Done → IsFlushed (K.state out.new).held (K.state out.new).flushed }
     ensures later { (K.state out.old).faults ≤ (K.state out.new).faults }
 {
     if write_summary(summary, out).is_ok() {
@@ -77,12 +87,17 @@ fn end_with<K: Sink>(summary: &Summary, out: &mut K) -> u8
 }
 
 /// Writes the log and the summary of a call that came past its sessions, and answers the status.
-pub(crate) fn finish<K: Sink>(alloc: Global, clients: u32, done: SessionsDone, out: &mut K) -> u8
+pub(crate) fn finish<K: Sink>(
+    alloc: Global,
+    clients: u32,
+    done: SessionsDone,
+    out: &mut K,
+) -> Status
     requires image { HasLog Image done.words.words }
     ensures printed { ForEachLog Image done.words.words
         (λ d b log. Printed (K.state out.old) (K.state out.new)
         (whole_text d b log clients done.faults.items done.lines done.refused) (status_for done.faults.items) result) }
-    ensures flushed { result ≡ 0 → IsFlushed (K.state out.new).held (K.state out.new).flushed }
+    ensures flushed { result ≡ statuses.Done → IsFlushed (K.state out.new).held (K.state out.new).flushed }
     ensures later { (K.state out.old).faults ≤ (K.state out.new).faults }
 {
     let SessionsDone {
@@ -97,12 +112,12 @@ pub(crate) fn finish<K: Sink>(alloc: Global, clients: u32, done: SessionsDone, o
             end_with(&summary, out)
         }
         Err(LogError::Failed) => at_fault(status_for(faults.as_slice())),
-        Err(LogError::NoMemory) => 5,
+        Err(LogError::NoMemory) => Status::NoMemory,
     }
 }
 
 /// Writes the fault line of a call that stopped before its sessions, and answers its status.
-pub fn stopped<K: Sink>(stop: Stop, out: &mut K) -> u8
+pub fn stopped<K: Sink>(stop: Stop, out: &mut K) -> Status
     ensures status { result ≡ status_of stop }
     ensures line { Prints (K.state out.old) (K.state out.new) (stop_text stop) }
     ensures later { (K.state out.old).faults ≤ (K.state out.new).faults }

@@ -3,6 +3,7 @@
 ghost use Rattle.std.specs.Prelude.{◌≡◌, ◌≤◌, IfErr, IfOk};
 ghost use Rattle.pcg_base.specs.Told.{IsFlushed};
 ghost use Rattle.pcg_words.specs.Job.{IsRehearse};
+ghost use Rattle.call_lines.specs.declared.status.Status.TheVariants as statuses;
 ghost use Rattle.job_files.specs.Kept.{KeepsOther};
 ghost use Rattle.job_files.specs.Places.{IsLater};
 ghost use Rattle.rehearsal.specs.Outcomes.{Outcome, StopCause, answers_of};
@@ -10,7 +11,7 @@ ghost use Rattle.rehearsal.specs.Served.{IsServed};
 
 use crate::clients::run_clients;
 use crate::printing::{finish, stopped};
-use call_lines::Stop;
+use call_lines::{Status, Stop};
 use job_tables::read_input;
 use pcg_base::{Place, Sink};
 use pcg_words::RehearseJob;
@@ -56,14 +57,14 @@ pub fn run_rehearse<P: Place, K: Sink>(
     job: &RehearseJob,
     place: &mut P,
     out: &mut K,
-) -> u8
+) -> Status
 where
     P::In: Drop,
     P::Out: Drop,
     requires { IsRehearse job.now }
     ensures outcome { Outcome job.now (P.state place.old) (P.state place.new) (K.state out.old)
         (K.state out.new) result }
-    ensures flushed { result ≡ 0 → IsFlushed (K.state out.new).held (K.state out.new).flushed }
+    ensures flushed { result ≡ statuses.Done → IsFlushed (K.state out.new).held (K.state out.new).flushed }
     ensures others { KeepsOther (P.state place.old).files (answers_of job.now)
         (P.state place.new).files }
     ensures later { IsLater (P.state place.old) (P.state place.new) }

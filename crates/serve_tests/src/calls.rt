@@ -117,7 +117,8 @@ pub fn call_with(alloc: Global, words: &str, outside: &Outside<'_>) -> Result<Ra
         &clock,
         &OpenGate,
         &mut out,
-    );
+    )
+    .code();
     let answers = place.bytes_at("first.ans").unwrap_or(b"none");
     Ok(Ran {
         status,

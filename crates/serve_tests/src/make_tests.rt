@@ -81,7 +81,8 @@ fn makes(
         &clock,
         &OpenGate,
         &mut out,
-    );
+    )
+    .code();
     let fits = has_files(&place, whole);
     let printed = out.into_bytes();
     Ok(found == status && fits && printed.as_slice() == line)

@@ -135,7 +135,8 @@ fn answers_that_do_not_open(rt: HostRuntime) -> Result<(), Fail> {
         &clock,
         &OpenGate,
         &mut out,
-    );
+    )
+    .code();
     assert_eq!(rt; status, 4);
     assert_eq!(rt;
         out.into_bytes().as_slice(),

@@ -10,6 +10,8 @@ use Rattle.op_model.specs.Transcript.{Line, Faulty, WholeTranscript}
 use Rattle.session_machine.specs.Machine as machine
 use Rattle.pcg_base.specs.declared.reading.StreamEnd.{StreamEnd}
 use Rattle.pcg_base.specs.declared.reading.StreamEnd.TheVariants as ends
+use Rattle.call_lines.specs.declared.status.Status.{Status}
+use Rattle.call_lines.specs.declared.status.Status.TheVariants as statuses
 use Rattle.call_lines.specs.declared.summary.Fault.{Fault}
 use Rattle.call_lines.specs.declared.summary.Fault.TheVariants as faults
 use Rattle.call_lines.specs.declared.summary.ClientFault.{ClientFault}
@@ -51,8 +53,8 @@ faults_from client [] = []
 faults_from client (r ∷ rs) = fault_at client (fault_of r) ++ faults_from (client + 1) rs
 
 -- the status of a call with these faults, where its output doesn't fail
-unfoldable pub status_for : List ClientFault → ℕ
-status_for [] = 0
+unfoldable pub status_for : List ClientFault → Status
+status_for [] = statuses.Done
 status_for (f ∷ fs) = fault_status f.fault
 
 -- how many replies were written, and how many of them refuse their line
