@@ -8,6 +8,7 @@ use Rattle.pcg_base.specs.States.{PlaceState, SinkState}
 use Rattle.pcg_words.specs.declared.job.RehearseJob.{RehearseJob}
 use Rattle.pcg_words.specs.Job.{IsRehearse}
 use Rattle.call_lines.specs.declared.status.Status.{Status}
+use Rattle.call_lines.specs.Statuses.{code}
 use Rattle.call_lines.specs.Texts.{summary_line}
 use Rattle.call_lines.specs.declared.stops.Stop.{Stop}
 use Rattle.log_lines.specs.LogTexts.{log_text}
@@ -53,9 +54,9 @@ module _ (job : RehearseJob) (old new : PlaceState) (done : SessionsDone) (q : I
           ids = ids_stay (dataset_of job) q.base s.log s.image.dataset s.image.base s.image.legal;
           status = ap status_for s.faults_so;
           text_so = ap (λ t. log_text s.log ++ t)
-              (ap (λ fs. summary_line (n - 1) (length job.stems) n fs done.lines r done.refused l (status_for done.faults.items)) s.faults_so
-              ∙ ap (λ k. summary_line (n - 1) (length job.stems) n (faults_from 1 s.results) k r done.refused l (status_for done.faults.items)) s.lines
-              ∙ ap (λ k. summary_line (n - 1) (length job.stems) n (faults_from 1 s.results) (reply_count s.results) r k l (status_for done.faults.items)) s.refused);
+              (ap (λ fs. summary_line (n - 1) (length job.stems) n fs done.lines r done.refused l (code (status_for done.faults.items))) s.faults_so
+              ∙ ap (λ k. summary_line (n - 1) (length job.stems) n (faults_from 1 s.results) k r done.refused l (code (status_for done.faults.items))) s.lines
+              ∙ ap (λ k. summary_line (n - 1) (length job.stems) n (faults_from 1 s.results) (reply_count s.results) r k l (code (status_for done.faults.items))) s.refused);
         };
         play = s.play;
       }

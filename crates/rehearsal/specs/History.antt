@@ -13,6 +13,7 @@ use Rattle.histories.specs.Histories.{EntriesOwned, IdsStay, LeavesAreJoined, Ro
 use Rattle.log_lines.specs.LogTexts.{log_text}
 use Rattle.client_answers.specs.Plays.{IsPlay}
 use Rattle.call_lines.specs.declared.status.Status.{Status}
+use Rattle.call_lines.specs.Statuses.{code}
 use Rattle.call_lines.specs.Texts.{summary_line}
 use Rattle.job_tables.specs.Inputs.{clock_time}
 use Rattle.session_results.specs.Results.{Replied, SessionResult, clients_of, faults_from, refusal_count, reply_count, status_for}
@@ -31,7 +32,7 @@ module _ (d : Dataset) (b : Base) (log : List Entry) (results : List SessionResu
     pub ids : IdsStay d b log
     pub status : ended ≡ status_for (faults_from 1 results)
     pub text_so : text ≡ log_text log
-        ++ summary_line (length log - 1) (length stems) (length log) (faults_from 1 results) (reply_count results) (records d b log) (refusal_count results) (length (live_roots log)) ended
+        ++ summary_line (length log - 1) (length stems) (length log) (faults_from 1 results) (reply_count results) (records d b log) (refusal_count results) (length (live_roots log)) (code ended)
 
   -- the history, and what each client was replied, are those of the play of the schedule, by a clock's times
   pub record IsPlayOf (clock : Ticks) (schedule : List ℕ) : Type 0 where
