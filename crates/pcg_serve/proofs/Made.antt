@@ -1,5 +1,5 @@
 -- Why files weren't made, and what is told of it.
-use Rattle.std.proofs.Common.{◌≡◌, ◌∙◌, ℕ, refl, ap, arith, inl, inr}
+use Rattle.std.proofs.Common.{◌≡◌, ◌∙◌, refl, sym, ap, inl, inr}
 use Rattle.std.specs.Prelude.{◌⊎◌}
 use Rattle.pcg_base.specs.States.{PlaceState}
 use Rattle.pcg_base.specs.Causes.{Rose}

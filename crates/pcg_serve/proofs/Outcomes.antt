@@ -1,5 +1,5 @@
 -- What a call's outcome tells, by the mode of its job.
-use Rattle.std.proofs.Common.{◌≡◌, ℕ, Option, Some, None, sym, ◌∙◌, subst, arith, inl, inr}
+use Rattle.std.proofs.Common.{◌≡◌, Option, Some, None, sym, ◌∙◌, subst, inl, inr}
 use Rattle.std.specs.Prelude.{◌⊎◌}
 use Rattle.pcg_base.specs.Causes.{Rose}
 use Rattle.pcg_base.specs.States.{PlaceState, SinkState}

@@ -1,5 +1,5 @@
 -- What a call of a rehearsal comes to.
-use Rattle.std.specs.Prelude.{◌≡◌, ◌⊎◌, ◌==◌, if◌then◌else◌, ◌≤◌, ⊤, ℕ, pred, List, [], length, map, take, slice_get, Option, Some, None}
+use Rattle.std.specs.Prelude.{◌≡◌, ◌⊎◌, ◌≤◌, ⊤, ℕ, pred, List, [], length, map, take, slice_get, Option, Some, None}
 use Rattle.std.specs.FinMap.{get}
 use Rattle.std.specs.Io.KnownBytes.{Appends}
 use Rattle.op_model.specs.declared.base.Base.{Base}
