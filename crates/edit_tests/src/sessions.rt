@@ -143,6 +143,84 @@ pub fn file_of(
     })
 }
 
+/// Puts a file behind others.
+fn put_file(
+    alloc: Global,
+    files: &mut Vec<MemFile>,
+    faults: &[Fault<'_>],
+    name: &str,
+    bytes: &[u8],
+) -> Result<(), Fail> {
+    let bytes = Vec::from_slice(alloc, bytes)?;
+    files.push(file_of(alloc, faults, name, bytes)?)?;
+    Ok(())
+}
+
+/// Puts a client's requests behind other files.
+fn put_requests(
+    alloc: Global,
+    files: &mut Vec<MemFile>,
+    faults: &[Fault<'_>],
+    name: &str,
+    text: &str,
+) -> Result<(), Fail> {
+    let bytes = spelled(alloc, text)?;
+    files.push(file_of(alloc, faults, name, bytes)?)?;
+    Ok(())
+}
+
+/// Puts the tables, the schedule and a file that is none of the job's.
+fn put_tables(
+    alloc: Global,
+    files: &mut Vec<MemFile>,
+    session: &Session<'_>,
+    faults: &[Fault<'_>],
+) -> Result<(), Fail> {
+    put_file(alloc, files, faults, "supervoxels.csv", session.supervoxels)?;
+    put_file(alloc, files, faults, "edges.csv", session.edges)?;
+    put_file(
+        alloc,
+        files,
+        faults,
+        "schedule.txt",
+        session.schedule.as_bytes(),
+    )?;
+    put_file(alloc, files, faults, "other.txt", b"other".as_slice())
+}
+
+/// Puts what the clients' files hold before the call.
+fn put_clients(
+    alloc: Global,
+    files: &mut Vec<MemFile>,
+    session: &Session<'_>,
+    outside: &Outside<'_>,
+) -> Result<(), Fail> {
+    let old = outside.old.as_bytes();
+    put_file(alloc, files, outside.faults, "first.ans", old)?;
+    put_file(alloc, files, outside.faults, "second.ans", old)?;
+    put_requests(
+        alloc,
+        files,
+        outside.faults,
+        "first.req",
+        session.requests[0],
+    )?;
+    put_requests(
+        alloc,
+        files,
+        outside.faults,
+        "second.req",
+        session.requests[1],
+    )?;
+    put_requests(
+        alloc,
+        files,
+        outside.faults,
+        "third.req",
+        session.requests[2],
+    )
+}
+
 /// The files of a session, and one that is none of its job.
 fn files_of(
     alloc: Global,
@@ -150,25 +228,8 @@ fn files_of(
     outside: &Outside<'_>,
 ) -> Result<Vec<MemFile>, Fail> {
     let mut files = Vec::new(alloc);
-    for (name, bytes) in [
-        ("supervoxels.csv", session.supervoxels),
-        ("edges.csv", session.edges),
-        ("schedule.txt", session.schedule.as_bytes()),
-        ("other.txt", b"other".as_slice()),
-        ("first.ans", outside.old.as_bytes()),
-        ("second.ans", outside.old.as_bytes()),
-    ] {
-        let bytes = Vec::from_slice(alloc, bytes)?;
-        files.push(file_of(alloc, outside.faults, name, bytes)?)?;
-    }
-    for (name, text) in [
-        ("first.req", session.requests[0]),
-        ("second.req", session.requests[1]),
-        ("third.req", session.requests[2]),
-    ] {
-        let bytes = spelled(alloc, text)?;
-        files.push(file_of(alloc, outside.faults, name, bytes)?)?;
-    }
+    put_tables(alloc, &mut files, session, outside.faults)?;
+    put_clients(alloc, &mut files, session, outside)?;
     Ok(files)
 }
 
