@@ -87,7 +87,7 @@ fn ends_so(alloc: Global, fault: &Fault<'_>, single: bool, is_met: bool) -> Resu
 /// which a run doesn't end as it should.
 fn first_wrong(alloc: Global, at: &str, flush: bool, single: bool) -> Result<Option<u32>, Fail> {
     let text = text_at(alloc, at)?;
-    let calls = calls_of(text.as_slice(), at, flush, single) as u32;
+    let calls = calls_of(text.as_slice(), at, flush, single).min(65535) as u32;
     for number in 1..=calls.saturating_add(3) {
         let fault = Fault { at, flush, number };
         if !ends_so(alloc, &fault, single, number <= calls)? {
