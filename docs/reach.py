@@ -4,9 +4,10 @@ usage: reach.py [--write]
 
 A definition is reached if the contract of pcg_serve::run names it, or another reached one does. The table
 "What a reader must read to believe `run`" has each file under crates/*/specs with a reached definition,
-with their number and their lines, without imports, comments and blank lines. It prints where the table
-says something else and ends with 1; with --write it puts the right numbers there. A file that has come or
-gone it names alone: its place and its sentence are for a person to write.
+with their number and their lines, without imports, comments and blank lines. Each other file says in its
+first line that no clause of `run` is made of it. It prints where the table or a first line says something
+else and ends with 1; with --write it puts the right numbers there. A file that has come or gone it names
+alone: its place and its sentence, or its first line, are for a person to write.
 """
 
 import pathlib
@@ -23,6 +24,10 @@ HEADS = (
 )
 WORD = re.compile(r"[^\s(){}\[\],;λ]+")
 ROW = re.compile(r"\| \d+ \| `(\w+)/specs/([\w/]+)\.antt` \| (.*) \| (\d+) \| (\d+) \|$")
+FIRST_LINES = (
+    "-- Inner: no clause of `run` is made of it.",
+    "-- Examples: no clause of `run` is made of them.",
+)
 TOTAL = re.compile(r"(\d+) spec files have a definition that a clause of `run` is made of: (\d+) definitions of ([\d,]+) lines")
 
 
@@ -83,13 +88,31 @@ class Module:
         return out
 
 
-def reached():
-    """The reached definitions, by file: for each how many, and of how many lines together."""
-    modules = {}
-    for path in ROOT.glob("crates/*/specs/**/*.antt"):
+def texts():
+    """The text of each file under a specs folder, by its crate and module; a list of modules isn't one."""
+    out = {}
+    for path in sorted(ROOT.glob("crates/*/specs/**/*.antt")):
         crate = path.relative_to(ROOT / "crates").parts[0]
         inner = path.relative_to(ROOT / "crates" / crate / "specs").with_suffix("")
-        modules[crate, ".".join(inner.parts)] = Module(path.read_text(encoding="utf-8"))
+        if path.name != "Lib.antt":
+            out[crate, ".".join(inner.parts)] = path.read_text(encoding="utf-8")
+    return out
+
+
+def first_lines(files, found):
+    """Whether each file's first line tells that no clause is made of it, just where that is so."""
+    right = True
+    for own, text in files.items():
+        if text.startswith(FIRST_LINES) == (own in found):
+            right = False
+            told = "is made of it" if own in found else f"isn't made of it: its first line is to be {FIRST_LINES[0]}"
+            print(f"{'/specs/'.join(own)}: run {told}")
+    return right
+
+
+def reached(files):
+    """The reached definitions, by file: for each how many, and of how many lines together."""
+    modules = {own: Module(text) for own, text in files.items()}
     call = CALL.read_text(encoding="utf-8")
     begin = call.index("pub fn run<")
     clauses = re.sub(r"//.*", "", call[begin : call.index("\n{", begin)])
@@ -113,7 +136,9 @@ def reached():
 
 
 def main(write):
-    found, right, number = reached(), True, 0
+    files = texts()
+    found, number = reached(files), 0
+    right = first_lines(files, found)
     left, lines = set(found), CLAIMS.read_text(encoding="utf-8").split("\n")
     for at, line in enumerate(lines):
         row = ROW.match(line)

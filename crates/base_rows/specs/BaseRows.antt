@@ -1,3 +1,4 @@
+-- Inner: no clause of `run` is made of it.
 -- The records of a base and its first entry, by kinds, in the order of their places.
 use Rattle.std.specs.Prelude.{ℕ, List, [], ◌∷◌, ◌++◌, length, map}
 use Rattle.op_model.specs.declared.base.Dataset.{Dataset}

@@ -1,3 +1,4 @@
+-- Inner: no clause of `run` is made of it.
 -- The records of a base by their places: what edges, nodes and links the places mean.
 use Rattle.std.specs.Prelude.{◌≡◌, ◌≢◌, ℕ, ◌<◌, List, length, Some, slice_index_or}
 use Rattle.std.specs.List.{slice_get}

@@ -1,3 +1,4 @@
+-- Inner: no clause of `run` is made of it.
 -- What holds while the records are put behind each other, and where their chains end.
 use Rattle.std.specs.Prelude.{◌≡◌, ℕ, zero, suc, ◌+◌, ◌-◌, ◌<◌, nat_lt, if◌then◌else◌, ◌++◌, Bool, true, false, List, [], ◌∷◌, length, slice_index_or, IsFalse}
 use Rattle.std.specs.List.{list_any}

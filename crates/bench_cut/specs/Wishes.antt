@@ -1,3 +1,4 @@
+-- Inner: no clause of `run` is made of it.
 -- Which nets can be made.
 use Rattle.std.specs.Prelude.{◌≤◌, ℕ}
 use Rattle.bench_cut.specs.declared.words.Wish.{Wish}

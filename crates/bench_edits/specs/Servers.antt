@@ -1,3 +1,4 @@
+-- Inner: no clause of `run` is made of it.
 -- What stands in the words of a log that edits are put into.
 use Rattle.std.specs.Prelude.{◌≡◌, ℕ, ◌+◌, ◌*◌, ◌≤◌, List, length}
 use Rattle.op_model.specs.declared.base.Dataset.{Dataset}

@@ -1,3 +1,4 @@
+-- Inner: no clause of `run` is made of it.
 -- What holds of a walk back through the log.
 use Rattle.std.specs.Prelude.{◌≡◌, ℕ, ◌||◌, true, false, List, ◌∷◌, ◌++◌, map, reverse}
 use Rattle.std.specs.List.{AllByRecursion}

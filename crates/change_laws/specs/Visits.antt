@@ -1,3 +1,4 @@
+-- Inner: no clause of `run` is made of it.
 -- The entries that a walk back from roots meets.
 use Rattle.std.specs.Prelude.{ℕ, Bool, ◌||◌, if◌then◌else◌, List, [], ◌∷◌, ◌++◌, map}
 use Rattle.std.specs.List.{filter}

@@ -1,3 +1,4 @@
+-- Inner: no clause of `run` is made of it.
 -- Where a walk back from a root stands: which roots it met, and which entries wait.
 use Rattle.std.specs.Prelude.{◌≡◌, ℕ, ◌+◌, ◌<◌, ◌≤◌, true, false, ◌==◌, if◌then◌else◌, List, length, Some}
 use Rattle.std.specs.List.{AllByRecursion, list_any}

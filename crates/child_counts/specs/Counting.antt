@@ -1,3 +1,4 @@
+-- Inner: no clause of `run` is made of it.
 -- How many children new nodes have, counted by the places of least leaves in a list that has those of all of them.
 use Rattle.std.specs.Prelude.{◌≡◌, ℕ, ◌-◌, ◌<◌, ◌≤◌, Bool, IsTrue, ◌&&◌, ◌==◌, List, ◌∷◌, length, map}
 use Rattle.std.specs.List.{All, filter, range_with_len}

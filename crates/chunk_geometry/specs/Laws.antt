@@ -1,3 +1,4 @@
+-- Inner: no clause of `run` is made of it.
 -- Laws over chunks.
 use Rattle.std.specs.Prelude.{◌≡◌, ◌≤◌, true}
 use Rattle.chunk_geometry.specs.Cells.{Cells}

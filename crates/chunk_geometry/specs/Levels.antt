@@ -1,3 +1,4 @@
+-- Inner: no clause of `run` is made of it.
 -- The level of two base chunks: the least layer from the second on whose chunk holds both.
 use Rattle.std.specs.Prelude.{ℕ, Bool, ◌==◌, ◌&&◌}
 use Rattle.chunk_geometry.specs.declared.Cell.{Cell}

@@ -1,3 +1,4 @@
+-- Examples: no clause of `run` is made of them.
 -- Worked grids.
 use Rattle.std.specs.Prelude.{◌≡◌, ℕ, Ok, Err}
 use Rattle.chunk_geometry.specs.Cells.{Cells}

@@ -1,3 +1,4 @@
+-- Inner: no clause of `run` is made of it.
 -- One event of one client, in its place.
 use Rattle.std.specs.Prelude.{◌≡◌, ℕ, List}
 use Rattle.op_model.specs.declared.base.Dataset.{Dataset}

@@ -1,3 +1,4 @@
+-- Inner: no clause of `run` is made of it.
 -- What the core asks of the calls that it makes.
 use Rattle.std.specs.Prelude.{◌≡◌, ℕ, List, ⊤, Some, None, Result, Ok, Err}
 use Rattle.op_model.specs.declared.base.Dataset.{Dataset}

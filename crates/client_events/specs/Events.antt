@@ -1,3 +1,4 @@
+-- Inner: no clause of `run` is made of it.
 -- What the steps of clients come to.
 use Rattle.std.specs.Prelude.{◌≡◌, ℕ, Bool, true, false, ◌==◌, if◌then◌else◌, List, Option, length, slice_index, ⊤}
 use Rattle.op_model.specs.declared.base.Dataset.{Dataset}

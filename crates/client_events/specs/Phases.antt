@@ -1,3 +1,4 @@
+-- Inner: no clause of `run` is made of it.
 -- What the phases of the code mean.
 use Rattle.std.specs.Prelude.{ℕ, ◌+◌, List}
 use Rattle.op_model.specs.declared.request.LineError.TheVariants as error

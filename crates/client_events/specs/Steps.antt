@@ -1,3 +1,4 @@
+-- Inner: no clause of `run` is made of it.
 -- One event of one client, as the machine has it.
 use Rattle.std.specs.Prelude.{◌≡◌, ℕ, ◌+◌, ◌≤◌, Bool, true, false, if◌then◌else◌, List, Option, Some, None, length, map, drop}
 use Rattle.op_model.specs.declared.base.Dataset.{Dataset}

@@ -1,3 +1,4 @@
+-- Inner: no clause of `run` is made of it.
 -- Line feeds, and what a stream's next line is.
 use Rattle.std.specs.Prelude.{◌≡◌, ◌==◌, ◌+◌, ◌-◌, ◌^◌, ◌<◌, ◌≤◌, ℕ, List, [], ◌∷◌, ◌++◌, length, take, drop, Bool, true, false, Option}
 use Rattle.std.specs.List.{list_any}

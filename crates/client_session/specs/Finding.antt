@@ -1,3 +1,4 @@
+-- Inner: no clause of `run` is made of it.
 -- What the buffer's search finds.
 use Rattle.std.specs.Prelude.{◌≡◌, ◌<◌, ◌≤◌, ℕ, List, length, slice_range, Bool, true, false, Option}
 use Rattle.client_session.specs.declared.found.Found.{Found}

@@ -1,3 +1,4 @@
+-- Inner: no clause of `run` is made of it.
 -- What clauses read of a session, and what its next line is.
 use Rattle.std.specs.Prelude.{◌≡◌, ◌==◌, ◌+◌, ◌<◌, ◌≤◌, ◌++◌, ℕ, List, length, Bool, true, false, Option}
 use Rattle.std.specs.List.{list_any}

@@ -1,3 +1,4 @@
+-- Inner: no clause of `run` is made of it.
 -- The active edges among supervoxels.
 use Rattle.std.specs.Prelude.{◌≡◌, ℕ, ◌<◌, Bool, ◌&&◌, List}
 use Rattle.std.specs.List.{filter}

@@ -1,3 +1,4 @@
+-- Inner: no clause of `run` is made of it.
 -- The active edges that lead out of a node.
 use Rattle.std.specs.Prelude.{ℕ, Bool, ◌&&◌, nat_lt, List}
 use Rattle.std.specs.List.{AllByRecursion}

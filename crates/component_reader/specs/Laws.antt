@@ -1,3 +1,4 @@
+-- Inner: no clause of `run` is made of it.
 -- What holds of the active edges among the leaves of a root.
 use Rattle.std.specs.Prelude.{◌≡◌, ℕ, List, IsTrue, ◌<◌, length}
 use Rattle.std.specs.List.{AllByRecursion}

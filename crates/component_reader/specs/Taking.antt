@@ -1,3 +1,4 @@
+-- Inner: no clause of `run` is made of it.
 -- Edges that are met one by one, of which a list keeps no more than were allowed.
 use Rattle.std.specs.Prelude.{◌≡◌, ℕ, Bool, ◌&&◌, ◌==◌, List, length, take}
 use Rattle.op_model.specs.declared.base.Edge.{Edge}

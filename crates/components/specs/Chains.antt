@@ -1,3 +1,4 @@
+-- Inner: no clause of `run` is made of it.
 -- The pairs of each vertex as a chain: its last pair, and before each of them the one before. A pair is named by its
 -- number and one more, so that 0 says that there is none.
 use Rattle.std.specs.Prelude.{◌≡◌, ℕ, zero, suc, ◌<◌, Bool, cond, ◌||◌, ◌==◌, List, length, slice_index, slice_index_or}

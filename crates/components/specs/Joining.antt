@@ -1,3 +1,4 @@
+-- Inner: no clause of `run` is made of it.
 -- What pairs of vertices join, and the least vertex of each component.
 use Rattle.std.specs.Prelude.{◌≡◌, ℕ, ◌<◌, ◌≤◌, Bool, ◌&&◌, ◌||◌, ◌==◌, List, length, slice_index}
 use Rattle.std.specs.List.{list_any, range_with_len}

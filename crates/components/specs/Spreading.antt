@@ -1,3 +1,4 @@
+-- Inner: no clause of `run` is made of it.
 -- The state of a traversal: a label for each vertex below n, n itself where it has none, and the vertices that wait.
 use Rattle.std.specs.Prelude.{◌≡◌, ◌≢◌, ℕ, ◌+◌, ◌*◌, ◌<◌, ◌≤◌, true, false, List, [], ◌∷◌, ◌++◌, length, nat_eq, slice_index, slice_set, ◌⊎◌}
 use Rattle.std.specs.List.{count_by, range_with_len}

@@ -1,3 +1,4 @@
+-- Inner: no clause of `run` is made of it.
 -- Steps of the core.
 use Rattle.std.specs.Prelude.{◌≡◌, ◌<◌, ◌⊎◌, [], ℕ, pred, Bool, true, false, List, Option, None, slice_get, Some}
 use Rattle.op_model.specs.declared.base.Dataset.{Dataset}

@@ -1,3 +1,4 @@
+-- Inner: no clause of `run` is made of it.
 -- The core in a state of the machine.
 use Rattle.std.specs.Prelude.{◌≡◌, ℕ, List, ◌<◌, ◌-◌, ◌^◌, suc, length, slice_get, Some}
 use Rattle.op_model.specs.declared.base.Dataset.{Dataset}

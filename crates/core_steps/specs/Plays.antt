@@ -1,3 +1,4 @@
+-- Inner: no clause of `run` is made of it.
 -- What a whole run of the core comes to.
 use Rattle.std.specs.Prelude.{◌≡◌, ℕ, suc, Bool, List, ◌++◌, reverse, slice_get, Some}
 use Rattle.op_model.specs.declared.base.Dataset.{Dataset}

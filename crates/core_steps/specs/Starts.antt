@@ -1,3 +1,4 @@
+-- Inner: no clause of `run` is made of it.
 -- The core at the start.
 use Rattle.std.specs.Prelude.{ℕ, Bool, List, map}
 use Rattle.op_model.specs.Transcript.{Line}

@@ -1,3 +1,4 @@
+-- Inner: no clause of `run` is made of it.
 -- One step of one client: its next event, or none.
 use Rattle.std.specs.Prelude.{◌≡◌, ℕ, true, false, List, length}
 use Rattle.op_model.specs.declared.base.Dataset.{Dataset}

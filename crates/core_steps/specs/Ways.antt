@@ -1,3 +1,4 @@
+-- Inner: no clause of `run` is made of it.
 -- Whether a client may go on.
 use Rattle.std.specs.Prelude.{◌≡◌, ℕ, ◌<◌, ◌-◌, length, Bool, true, false, Option, Some, None, ⊤}
 use Rattle.session_machine.specs.Machine as machine

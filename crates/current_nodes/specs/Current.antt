@@ -1,3 +1,4 @@
+-- Inner: no clause of `run` is made of it.
 -- Which records are of nodes that no entry has retired.
 use Rattle.std.specs.Prelude.{◌≡◌, ℕ, ◌<◌, List, ◌∷◌, length, Some, IsTrue, IsFalse}
 use Rattle.std.specs.List.{slice_get, list_any}

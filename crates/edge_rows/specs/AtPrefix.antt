@@ -1,3 +1,4 @@
+-- Inner: no clause of `run` is made of it.
 -- Edges with the states that a list of edges gives them.
 use Rattle.std.specs.Prelude.{List}
 use Rattle.op_model.specs.declared.base.Edge.{Edge}

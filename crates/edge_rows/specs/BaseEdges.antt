@@ -1,3 +1,4 @@
+-- Inner: no clause of `run` is made of it.
 -- The records of the base's edges, in which a pair is found by halving.
 use Rattle.std.specs.Prelude.{◌≡◌, ℕ, ◌%◌, ◌/◌, ◌<◌, ◌≤◌, Bool, true, false, ◌&&◌, ◌==◌, List, length, Some}
 use Rattle.std.specs.List.{slice_get}

@@ -1,3 +1,4 @@
+-- Inner: no clause of `run` is made of it.
 -- What the crates of edits answer is what the core asks.
 use Rattle.std.specs.Prelude.{ℕ, List, Result}
 use Rattle.op_model.specs.declared.base.Dataset.{Dataset}

@@ -1,3 +1,4 @@
+-- Inner: no clause of `run` is made of it.
 -- Merges, and the pairs that they name.
 use Rattle.std.specs.Prelude.{◌≡◌, ℕ, Bool, true, not, ◌&&◌, ◌==◌, if◌then◌else◌, List, [], ◌∷◌, Option}
 use Rattle.std.specs.List.{find}

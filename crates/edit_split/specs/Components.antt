@@ -1,3 +1,4 @@
+-- Inner: no clause of `run` is made of it.
 -- The component of a split's marks, and what is cut of it.
 use Rattle.std.specs.Prelude.{◌≡◌, ℕ, ◌<◌, ⊤, List, map, Some, None}
 use Rattle.op_model.specs.declared.base.Dataset.{Dataset}

@@ -1,3 +1,4 @@
+-- Inner: no clause of `run` is made of it.
 -- Splits, and what their marks are refused for.
 use Rattle.std.specs.Prelude.{◌≡◌, ℕ, false, not, ◌||◌, ◌==◌, nat_lt, List, [], ◌∷◌, length, Option}
 use Rattle.op_model.specs.declared.base.Dataset.{Dataset}

@@ -1,3 +1,4 @@
+-- Inner: no clause of `run` is made of it.
 -- What is gathered, layer by layer, of the nodes and links that an entry makes.
 use Rattle.std.specs.Prelude.{◌≡◌, ℕ, nat_le, Bool, List, ◌∷◌, length, map, Option, None, option_map}
 use Rattle.std.specs.List.{All, find, flat_map}

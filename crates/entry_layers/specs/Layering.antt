@@ -1,3 +1,4 @@
+-- Inner: no clause of `run` is made of it.
 -- What is known of an entry's layers while they are made, one behind the other.
 use Rattle.std.specs.Prelude.{◌≡◌, ℕ, ◌+◌, ◌<◌, ◌≤◌, List, [], ◌∷◌, length, map, None, IsTrue}
 use Rattle.std.specs.List.{All}

@@ -1,3 +1,4 @@
+-- Inner: no clause of `run` is made of it.
 -- What holds while the changes of an entry are listed.
 use Rattle.std.specs.Prelude.{◌≡◌, ℕ, ◌+◌, ◌<◌, ◌⊎◌, true, false, List, length, take, Some}
 use Rattle.std.specs.List.{list_any, slice_get}

@@ -1,3 +1,4 @@
+-- Inner: no clause of `run` is made of it.
 -- When the draft of an entry can be made: what is known of the plan, the nodes, the links and the places.
 use Rattle.std.specs.Prelude.{ℕ, ◌≤◌, List, ◌∷◌}
 use Rattle.op_model.specs.declared.base.Dataset.{Dataset}

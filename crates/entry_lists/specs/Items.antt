@@ -1,3 +1,4 @@
+-- Inner: no clause of `run` is made of it.
 -- The ids of a request as items.
 use Rattle.std.specs.Prelude.{ℕ, List, [], ◌∷◌}
 use Rattle.op_model.specs.declared.request.AskedPair.{AskedPair}

@@ -1,3 +1,4 @@
+-- Inner: no clause of `run` is made of it.
 -- The links of an entry, by the places of their children and parents.
 use Rattle.std.specs.Prelude.{◌≡◌, ℕ, ◌+◌, ◌<◌, ◌==◌, if◌then◌else◌, List, [], ◌∷◌, ◌++◌, length, map, set, IsTrue}
 use Rattle.std.specs.List.{All, flat_map}

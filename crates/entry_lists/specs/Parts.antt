@@ -1,3 +1,4 @@
+-- Inner: no clause of `run` is made of it.
 -- The parts of an entry's lists, each behind the records of a log.
 use Rattle.std.specs.Prelude.{◌≡◌, ℕ, false, List, [], ◌∷◌, map, IsTrue, IsFalse}
 use Rattle.std.specs.List.{All, list_any}

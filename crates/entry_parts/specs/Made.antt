@@ -1,3 +1,4 @@
+-- Inner: no clause of `run` is made of it.
 -- The nodes and links that an entry makes, as its records have them.
 use Rattle.std.specs.Prelude.{◌≡◌, ℕ, ◌<◌, List, ◌∷◌, map, IsTrue}
 use Rattle.std.specs.List.{All, flat_map}

@@ -1,3 +1,4 @@
+-- Inner: no clause of `run` is made of it.
 -- Parts of a base that nothing joins to the rest.
 use Rattle.std.specs.Prelude.{◌≡◌, ℕ, ◌<◌, ◌↔◌, List, [], length, map, IsTrue}
 use Rattle.std.specs.List.{All}

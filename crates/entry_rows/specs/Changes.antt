@@ -1,3 +1,4 @@
+-- Inner: no clause of `run` is made of it.
 -- The changes of an entry by their places.
 use Rattle.std.specs.Prelude.{◌≡◌, ℕ, ◌<◌, ◌≤◌, List, true, Some}
 use Rattle.std.specs.List.{slice_get}

@@ -1,3 +1,4 @@
+-- Inner: no clause of `run` is made of it.
 -- What one more entry changes, retires and makes, by places, behind the records that stand.
 use Rattle.std.specs.Prelude.{◌≡◌, ℕ, zero, suc, ◌+◌, ◌<◌, None, List, [], ◌∷◌, ◌++◌, length, map, IsFalse}
 use Rattle.std.specs.List.{All, list_any}

@@ -1,3 +1,4 @@
+-- Inner: no clause of `run` is made of it.
 -- What one more entry changes, retires and makes, by places, behind the records of a log.
 use Rattle.std.specs.Prelude.{◌≡◌, ◌+◌, List, ◌∷◌, ◌++◌, length, map}
 use Rattle.op_model.specs.declared.base.Dataset.{Dataset}

@@ -1,3 +1,4 @@
+-- Inner: no clause of `run` is made of it.
 -- The nodes that an entry retires, by the paths of its changed pairs' ends.
 use Rattle.std.specs.Prelude.{◌≡◌, ℕ, true, List, ◌∷◌, ◌++◌, length, Some, IsTrue}
 use Rattle.std.specs.List.{slice_get}

@@ -1,3 +1,4 @@
+-- Inner: no clause of `run` is made of it.
 -- Flows of the least cut's weight, and choices and plays that show them.
 use Rattle.std.specs.Prelude.{◌≡◌, ℕ, Bool, List, length, ℤ, pos, Option, None, slice_get}
 use Rattle.graph_model.specs.Lists.{has}

@@ -1,3 +1,4 @@
+-- Inner: no clause of `run` is made of it.
 -- How marks spread over the links outside a set.
 use Rattle.std.specs.Prelude.{◌≡◌, ℕ, ◌+◌, ◌-◌, ◌<◌, Bool, true, false, cond, ◌||◌, List, length, nat_eq, slice_index_or, ◌⊎◌}
 use Rattle.std.specs.List.{count_by, list_any}

@@ -1,3 +1,4 @@
+-- Inner: no clause of `run` is made of it.
 -- What contracts see of a net, and what makes a list of links one.
 use Rattle.std.specs.Prelude.{◌≡◌, ℕ, zero, suc, ◌<◌, Bool, cond, List, map, length, ◌≢◌, ◌⊎◌, is_some, slice_index}
 use Rattle.std.specs.declared.option.Option.{Option}

@@ -1,3 +1,4 @@
+-- Inner: no clause of `run` is made of it.
 -- What links carry, and sums over them at a block of vertices.
 use Rattle.std.specs.Prelude.{◌≡◌, ℕ, ◌+◌, ◌<◌, Bool, cond, not, ◌&&◌, ◌||◌, List, length, ℤ, nat_eq, slice_index}
 use Rattle.graph_model.specs.Lists.{has}

@@ -1,3 +1,4 @@
+-- Inner: no clause of `run` is made of it.
 -- Tests of a list of links, of which `is_net` is made.
 use Rattle.std.specs.Prelude.{ℕ, ◌-◌, Bool, not, ◌&&◌, ◌||◌, List, nat_eq, nat_lt, min, max}
 use Rattle.graph_model.specs.Wires.{Wire, wire}

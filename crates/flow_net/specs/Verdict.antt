@@ -1,3 +1,4 @@
+-- Inner: no clause of `run` is made of it.
 -- The answer of a check of a cut and a flow: the first fault, or Ok.
 use Rattle.std.specs.Prelude.{◌≡◌, ℕ, Bool, false, cond, not, ◌&&◌, ◌||◌, List, length, ℤ, pos, nat_eq, nat_lt, is_none}
 use Rattle.std.specs.declared.option.Option.{Option}

@@ -1,3 +1,4 @@
+-- Examples: no clause of `run` is made of them.
 -- Least cuts of small nets between vertices 0 and 3, evaluated.
 use Rattle.std.specs.Prelude.{◌≡◌, ℕ, [], ◌∷◌, Some, None}
 use Rattle.graph_model.specs.Wires.{Wire}

@@ -1,3 +1,4 @@
+-- Inner: no clause of `run` is made of it.
 -- Which empty pointers a new record fills.
 use Rattle.std.specs.Prelude.{◌≡◌, ℕ, zero, suc, ◌+◌, ◌*◌, ◌<◌, Bool, true, false, ◌==◌, List, [], ◌∷◌, ◌++◌, length, get_or, Option, Some, None, slice_index, IsFalse}
 use Rattle.std.specs.List.{AllByRecursion, slice_get, list_any}

@@ -1,3 +1,4 @@
+-- Inner: no clause of `run` is made of it.
 -- Where chains end in records that stand already, as walks along them tell.
 use Rattle.std.specs.Prelude.{◌≡◌, ℕ, ◌+◌, ◌*◌, ◌<◌, ◌≤◌, true, List, [], ◌∷◌, ◌++◌, get_or, Some, None, IsFalse}
 use Rattle.std.specs.List.{slice_get, list_any}

@@ -1,3 +1,4 @@
+-- Inner: no clause of `run` is made of it.
 -- What an entry's record tells.
 use Rattle.std.specs.Prelude.{◌≡◌}
 use Rattle.op_model.specs.declared.entry.Entry.{Entry}

@@ -1,3 +1,4 @@
+-- Inner: no clause of `run` is made of it.
 -- What stands below a node, from the layers as they are built.
 use Rattle.std.specs.Prelude.{◌≡◌, ℕ, ◌+◌, ◌≤◌, ◌==◌, map}
 use Rattle.std.specs.List.{filter, All}

@@ -1,3 +1,4 @@
+-- Inner: no clause of `run` is made of it.
 -- The chunks that the nodes of layers lie in, and the nodes with the places of their chunks.
 use Rattle.std.specs.Prelude.{ℕ, ◌+◌, ◌-◌, ◌==◌, if◌then◌else◌, List, [], ◌∷◌, ◌++◌, length, map}
 use Rattle.std.specs.List.{flat_map}

@@ -1,3 +1,4 @@
+-- Inner: no clause of `run` is made of it.
 -- The links of nodes to their children, by places, layer by layer.
 use Rattle.std.specs.Prelude.{◌≡◌, ℕ, ◌+◌, ◌-◌, ◌≤◌, ◌<◌, ◌==◌, IsTrue, List, length, map}
 use Rattle.std.specs.List.{All, filter, range_with_len}

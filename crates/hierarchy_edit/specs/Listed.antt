@@ -1,3 +1,4 @@
+-- Inner: no clause of `run` is made of it.
 -- What is found out about an entry before its draft is made.
 use Rattle.std.specs.Prelude.{◌≡◌, ℕ, [], ◌∷◌, nat_le, Bool, false, List, None, length, map, Option}
 use Rattle.std.specs.List.{flat_map}

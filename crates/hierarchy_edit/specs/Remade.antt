@@ -1,3 +1,4 @@
+-- Inner: no clause of `run` is made of it.
 -- The entry that a plan makes behind a log, and what is told of it.
 use Rattle.std.specs.Prelude.{◌≡◌, ℕ, List, length, Some, None}
 use Rattle.op_model.specs.declared.base.Dataset.{Dataset}

@@ -1,3 +1,4 @@
+-- Inner: no clause of `run` is made of it.
 -- Openings one by one, up to the first that fails.
 use Rattle.std.specs.Prelude.{◌≡◌, ◌≤◌, ◌+◌, ⊤, ℕ, Bool, true, List, [], length, take, slice_get, Option, Some}
 use Rattle.std.specs.List.{AllByRecursion}

@@ -1,3 +1,4 @@
+-- Inner: no clause of `run` is made of it.
 -- The lines of streams, read one by one.
 use Rattle.std.specs.Prelude.{◌≡◌, ◌<◌, ◌^◌, ℕ, Bool, true, false, List, [], ◌∷◌, ◌++◌, length, map, Option}
 use Rattle.pcg_base.specs.States.{PlaceState}

@@ -1,3 +1,4 @@
+-- Inner: no clause of `run` is made of it.
 -- The texts of a job, and what they make.
 use Rattle.std.specs.Prelude.{◌≡◌, ◌≢◌, ◌≤◌, ◌*◌, ◌+◌, ⊤, ℕ, List, [], length, Option, Some, None, Ok, Err, option_map}
 use Rattle.op_model.specs.declared.base.Base.{Base}

@@ -1,3 +1,4 @@
+-- Inner: no clause of `run` is made of it.
 -- Laws over the layers.
 use Rattle.std.specs.Prelude.{◌≡◌, ℕ, ◌+◌, ◌-◌, ◌≤◌, ◌<◌, ◌^◌, ◌↔◌, ◌&&◌, ◌==◌, false, List, [], ◌∷◌, length, map, slice_index_or, IsTrue}
 use Rattle.std.specs.List.{range_with_len, list_any, AllByRecursion}

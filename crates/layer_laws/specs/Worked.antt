@@ -1,3 +1,4 @@
+-- Examples: no clause of `run` is made of them.
 -- A worked example: four chunks in a row with a supervoxel each, the first three joined, then a merge of the last two.
 use Rattle.std.specs.Prelude.{◌≡◌, ℕ, true, false, List, [], ◌∷◌}
 use Rattle.op_model.specs.declared.base.Dataset.{Dataset}

@@ -1,3 +1,4 @@
+-- Inner: no clause of `run` is made of it.
 -- What holds of all that is made, and the first draw.
 use Rattle.std.specs.Prelude.{◌≡◌}
 use Rattle.made_input.specs.Draws.{next, shown}

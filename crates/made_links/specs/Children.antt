@@ -1,3 +1,4 @@
+-- Inner: no clause of `run` is made of it.
 -- The children of the nodes that an entry makes in a layer.
 use Rattle.std.specs.Prelude.{◌≡◌, ℕ, ◌-◌, ◌<◌, ◌&&◌, ◌==◌, nat_lt, if◌then◌else◌, Bool, IsTrue, List, [], ◌∷◌, length, map}
 use Rattle.std.specs.List.{All}

@@ -1,3 +1,4 @@
+-- Inner: no clause of `run` is made of it.
 -- Children in order, and their links.
 use Rattle.std.specs.Prelude.{◌≡◌, ℕ, ◌-◌, ◌==◌, List, map}
 use Rattle.std.specs.List.{filter}

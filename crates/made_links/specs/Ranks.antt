@@ -1,3 +1,4 @@
+-- Inner: no clause of `run` is made of it.
 -- Where the places of a list stand in it.
 use Rattle.std.specs.Prelude.{◌≡◌, ℕ, ◌-◌, ◌≤◌, ◌<◌, IsTrue, List, length}
 use Rattle.graph_model.specs.Lists.{has}

@@ -1,3 +1,4 @@
+-- Inner: no clause of `run` is made of it.
 -- What the new nodes of a layer are found from.
 use Rattle.std.specs.Prelude.{ℕ, List, ◌∷◌, IsTrue}
 use Rattle.graph_model.specs.Lists.{has}

@@ -1,3 +1,4 @@
+-- Inner: no clause of `run` is made of it.
 -- The new nodes of a layer and their numbers, which go on from the greatest one of each chunk in the order of least leaves.
 use Rattle.std.specs.Prelude.{◌≡◌, ℕ, ◌+◌, ◌-◌, ◌==◌, nat_le, if◌then◌else◌, List, [], ◌∷◌, Option, Some, None, IsTrue}
 use Rattle.std.specs.List.{filter}

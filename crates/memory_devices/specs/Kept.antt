@@ -1,3 +1,4 @@
+-- Inner: no clause of `run` is made of it.
 -- What a place in memory keeps beside each name.
 use Rattle.std.specs.Prelude.{◌≡◌, ℕ, suc, zero, List, [], ◌∷◌, map, Bool, false, if◌then◌else◌, Option, Some, None, string_bytes, bytes_eq, count_by, String}
 use Rattle.std.specs.FinMap.{from_entries}

@@ -1,3 +1,4 @@
+-- Inner: no clause of `run` is made of it.
 -- What a place in memory shows.
 use Rattle.std.specs.Prelude.{ℕ, List, Bool, Some}
 use Rattle.memory_devices.specs.declared.mem_place.MemPlace.{MemPlace}

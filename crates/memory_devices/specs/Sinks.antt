@@ -1,3 +1,4 @@
+-- Inner: no clause of `run` is made of it.
 -- What a sink in memory shows.
 use Rattle.std.specs.Prelude.{ℕ, List, take, Some}
 use Rattle.pcg_base.specs.States.{SinkState}

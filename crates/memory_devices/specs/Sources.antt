@@ -1,3 +1,4 @@
+-- Inner: no clause of `run` is made of it.
 -- What a source in memory shows.
 use Rattle.std.specs.Prelude.{ℕ, List, drop}
 use Rattle.memory_devices.specs.declared.mem_source.MemSource.{MemSource}

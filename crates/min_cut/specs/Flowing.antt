@@ -1,3 +1,4 @@
+-- Inner: no clause of `run` is made of it.
 -- A flow and what it has sent.
 use Rattle.std.specs.Prelude.{◌≡◌, ℕ, ◌+◌, ◌<◌, Bool, true, false, List, ℤ}
 use Rattle.graph_model.specs.Wires.{Wire}

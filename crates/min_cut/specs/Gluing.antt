@@ -1,3 +1,4 @@
+-- Inner: no clause of `run` is made of it.
 -- What walks of glue join, as a search finds it.
 use Rattle.std.specs.Prelude.{◌≡◌, ℕ, ◌<◌, ◌≤◌, true, false, List, length, is_some, slice_index_or}
 use Rattle.std.specs.declared.option.Option.{Option}

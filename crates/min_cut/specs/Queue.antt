@@ -1,3 +1,4 @@
+-- Inner: no clause of `run` is made of it.
 -- What a search in breadth keeps.
 use Rattle.std.specs.Prelude.{◌≡◌, ℕ, ◌<◌, ◌≤◌, Bool, false, List, length, ℤ, slice_index_or}
 use Rattle.std.specs.declared.option.Option.{Option}

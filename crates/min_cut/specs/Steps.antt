@@ -1,3 +1,4 @@
+-- Inner: no clause of `run` is made of it.
 -- Walks that go up one level with each link.
 use Rattle.std.specs.Prelude.{◌≡◌, ℕ, zero, suc, ◌+◌, ◌<◌, ◌≤◌, Bool, true, List, length, ℤ, slice_index_or}
 use Rattle.std.specs.declared.option.Option.{Option}

@@ -1,3 +1,4 @@
+-- Inner: no clause of `run` is made of it.
 -- What a search of the residual net by levels leaves.
 use Rattle.std.specs.Prelude.{◌≡◌, ℕ, ◌+◌, ◌<◌, ◌≤◌, Bool, true, false, List, length, ℤ, IfSome, slice_index_or, is_some, ◌⊎◌, nat_eq, slice_set, min, cond, ◌+ℤ◌, ◌-ℤ◌, pos}
 use Rattle.std.specs.List.{count_by}

@@ -1,3 +1,4 @@
+-- Inner: no clause of `run` is made of it.
 -- What the records before an entry don't have of the nodes and edges that it makes.
 use Rattle.std.specs.Prelude.{List, ◌∷◌, map, IsFalse}
 use Rattle.std.specs.List.{AllByRecursion, list_any}

@@ -1,3 +1,4 @@
+-- Examples: no clause of `run` is made of them.
 -- Worked ids and texts.
 use Rattle.std.specs.Prelude.{◌≡◌, ℕ, ◌^◌, ◌+◌, ◌-◌, ◌*◌, Ok, Some, None, [], codes}
 use Rattle.node_ids.specs.declared.Parts.{Parts}

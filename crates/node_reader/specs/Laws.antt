@@ -1,3 +1,4 @@
+-- Inner: no clause of `run` is made of it.
 -- What holds of the leaves in the records of nodes.
 use Rattle.std.specs.Prelude.{◌≡◌, ◌≤◌, ℕ, List, IsTrue}
 use Rattle.op_model.specs.declared.base.Dataset.{Dataset}

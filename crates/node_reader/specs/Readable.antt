@@ -1,3 +1,4 @@
+-- Inner: no clause of `run` is made of it.
 -- Which prefix and which supervoxels are asked of, and where a walk from a supervoxel up to its root stands.
 use Rattle.std.specs.Prelude.{ℕ, ◌≤◌, List, length, IsTrue}
 use Rattle.std.specs.List.{AllByRecursion}

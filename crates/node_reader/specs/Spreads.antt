@@ -1,3 +1,4 @@
+-- Inner: no clause of `run` is made of it.
 -- Leaves that were found, and nodes that are still to be opened.
 use Rattle.std.specs.Prelude.{ℕ, ◌/◌, ◌^◌, List, [], ◌∷◌, ◌++◌, length}
 use Rattle.std.specs.List.{AllByRecursion, flat_map, slice_get, sum_by}

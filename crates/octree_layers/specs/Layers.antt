@@ -1,3 +1,4 @@
+-- Inner: no clause of `run` is made of it.
 -- The layers of a base's octree as they are built.
 use Rattle.std.specs.Prelude.{◌≡◌, ℕ, ◌+◌, ◌<◌, List, [], ◌∷◌, length, map, IsTrue}
 use Rattle.std.specs.List.{All, flat_map}

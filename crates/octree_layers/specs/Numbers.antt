@@ -1,3 +1,4 @@
+-- Inner: no clause of `run` is made of it.
 -- The nodes of a layer and their numbers, which they have in their chunks in the order of least leaves.
 use Rattle.std.specs.Prelude.{◌≡◌, ℕ, ◌+◌, ◌<◌, ◌==◌, nat_le, if◌then◌else◌, List, [], ◌∷◌, length, map, Option, Some, None, ⊤}
 use Rattle.std.specs.List.{AllByRecursion, filter, range_with_len}

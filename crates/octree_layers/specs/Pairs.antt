@@ -1,3 +1,4 @@
+-- Inner: no clause of `run` is made of it.
 -- The pairs of least leaves that a layer joins, by their places.
 use Rattle.std.specs.Prelude.{ℕ, Bool, ◌&&◌, ◌==◌, List, map}
 use Rattle.std.specs.List.{filter}

@@ -1,3 +1,4 @@
+-- Inner: no clause of `run` is made of it.
 -- Places of supervoxels in the base's ascending list, and edges between places.
 use Rattle.std.specs.Prelude.{◌≡◌, ℕ, ◌+◌, ◌==◌, if◌then◌else◌, List, [], ◌∷◌, map}
 use Rattle.std.specs.List.{All}

@@ -1,3 +1,4 @@
+-- Inner: no clause of `run` is made of it.
 -- A transcript told from its end: the newest line, reply and entry come first.
 use Rattle.std.specs.Prelude.{◌≡◌, ℕ, suc, ◌<◌, ◌≤◌, List, [], ◌∷◌, length, Option, Some}
 use Rattle.op_model.specs.declared.base.Dataset.{Dataset}

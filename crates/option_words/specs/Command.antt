@@ -1,3 +1,4 @@
+-- Inner: no clause of `run` is made of it.
 -- The command by which `clap` reads options and stems.
 use Rattle.std.specs.Prelude.{Bool, true, false, Some, codes, List, [], ◌∷◌, ◌++◌, map}
 use Rattle.clap.specs.Walk.{Rule}

@@ -1,3 +1,4 @@
+-- Inner: no clause of `run` is made of it.
 -- What `clap` finds in the words, and what that says.
 use Rattle.std.specs.Prelude.{Bool, true, if◌then◌else◌, List, [], ◌∷◌, map, codes, bytes_eq, ◌&&◌, Option, Some, None, unwrap_or}
 use Rattle.std.specs.List.{list_all}

@@ -1,3 +1,4 @@
+-- Inner: no clause of `run` is made of it.
 -- Laws of the grammar, and words that were read by hand.
 use Rattle.std.specs.Prelude.{◌≡◌, Bool, true, false, List, [], ◌∷◌, codes, Option, Some, None, option_map, option_and_then}
 use Rattle.option_words.specs.Found.{clap_found, line_in, line_plain, stem_id}

@@ -1,3 +1,4 @@
+-- Inner: no clause of `run` is made of it.
 -- What a reading of words answers.
 use Rattle.std.specs.Prelude.{◌≡◌, ⊤, Option, Some, None, Result, Ok, Err}
 use Rattle.clap.specs.Walk.{rows_of}

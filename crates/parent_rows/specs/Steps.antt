@@ -1,3 +1,4 @@
+-- Inner: no clause of `run` is made of it.
 -- What a walk along a chain looks for, and where it may start.
 use Rattle.std.specs.Prelude.{◌≡◌, ℕ, ◌+◌, ◌*◌, ◌%◌, ◌^◌, ◌<◌, ◌≤◌, ◌⊎◌, Bool, true, false, ◌&&◌, ◌==◌, nat_lt, List, slice_index, Option, Some}
 use Rattle.std.specs.List.{slice_get}

@@ -1,3 +1,4 @@
+-- Inner: no clause of `run` is made of it.
 -- A part of a base tells the nodes of its supervoxels.
 use Rattle.std.specs.Prelude.{◌≡◌, ℕ, List, IsTrue}
 use Rattle.op_model.specs.declared.base.Dataset.{Dataset}

@@ -1,3 +1,4 @@
+-- Inner: no clause of `run` is made of it.
 -- The part of a base that an entry touches, made from the active edges of the log before it.
 use Rattle.std.specs.Prelude.{◌≡◌, ℕ, true, Bool, not, ◌&&◌, ◌↔◌, List, ◌∷◌, ◌++◌, map, IsTrue}
 use Rattle.std.specs.List.{AllByRecursion, filter, list_any}

@@ -1,3 +1,4 @@
+-- Inner: no clause of `run` is made of it.
 -- The edges of a part and its least leaves, taken as a base of its own.
 use Rattle.std.specs.Prelude.{ℕ, List}
 use Rattle.std.specs.List.Sorted.{IsNonDecreasingBy}

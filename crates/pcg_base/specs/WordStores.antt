@@ -1,3 +1,4 @@
+-- Inner: no clause of `run` is made of it.
 -- What contracts see of a vector of words.
 use Rattle.std.specs.Prelude.{ℕ, List}
 

@@ -1,3 +1,4 @@
+-- Inner: no clause of `run` is made of it.
 -- What one step of a search in breadth finds.
 use Rattle.std.specs.Prelude.{◌≡◌, ℕ, ◌≤◌, Bool, true, false, List, ◌++◌, length, ◌⊎◌}
 use Rattle.std.specs.List.{filter}

@@ -1,3 +1,4 @@
+-- Inner: no clause of `run` is made of it.
 -- The nodes of the first entry.
 use Rattle.std.specs.Prelude.{ℕ, ◌==◌, nat_le, List, length}
 use Rattle.std.specs.List.{filter}

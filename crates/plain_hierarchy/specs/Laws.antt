@@ -1,3 +1,4 @@
+-- Inner: no clause of `run` is made of it.
 -- Laws over the first entry.
 use Rattle.std.specs.Prelude.{ℕ, ◌≤◌, ◌<◌, ◌^◌, [], ◌∷◌, length}
 use Rattle.op_model.specs.declared.base.Dataset.{Dataset}

@@ -1,3 +1,4 @@
+-- Inner: no clause of `run` is made of it.
 -- What readers of words go by: the log that the words are the image of, and the places of its records.
 use Rattle.std.specs.Prelude.{◌≡◌, ℕ, ◌+◌, ◌^◌, ◌<◌, ◌≤◌, Bool, true, ◌==◌, if◌then◌else◌, List, [], ◌∷◌, drop, Option, Some, None}
 use Rattle.std.specs.List.{AllByRecursion, slice_get, last_or}

@@ -1,3 +1,4 @@
+-- Inner: no clause of `run` is made of it.
 -- Sessions over files that are open.
 use Rattle.std.specs.Prelude.{◌≡◌, ℕ, List, [], ◌∷◌, length, map, Option}
 use Rattle.op_model.specs.declared.base.Dataset.{Dataset}

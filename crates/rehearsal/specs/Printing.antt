@@ -1,3 +1,4 @@
+-- Inner: no clause of `run` is made of it.
 -- What a call prints that came past its sessions.
 use Rattle.std.specs.Prelude.{◌≡◌, ℕ, ◌-◌, List, ◌++◌, length}
 use Rattle.op_model.specs.declared.base.Dataset.{Dataset}

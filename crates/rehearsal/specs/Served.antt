@@ -1,3 +1,4 @@
+-- Inner: no clause of `run` is made of it.
 -- What the clients' files and the played sessions come to together.
 use Rattle.std.specs.Prelude.{◌≡◌, ℕ, List, length, None, false}
 use Rattle.std.specs.List.{AllByRecursion}

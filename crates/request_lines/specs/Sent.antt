@@ -1,3 +1,4 @@
+-- Inner: no clause of `run` is made of it.
 -- What a sink holds and what waits before it, while a text goes there by way of a page.
 use Rattle.request_lines.specs.declared.page.Page.{Page}
 use Rattle.std.specs.Prelude.{◌≡◌, ℕ, ◌≤◌, true, false, List, ◌++◌, take, ⊤, Option, Some, None}

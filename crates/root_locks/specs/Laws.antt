@@ -1,3 +1,4 @@
+-- Inner: no clause of `run` is made of it.
 -- What pinned locks keep.
 use Rattle.std.specs.Prelude.{◌≡◌, true, List, ℕ, None}
 use Rattle.std.specs.List.{AllByRecursion}

@@ -1,3 +1,4 @@
+-- Inner: no clause of `run` is made of it.
 -- What was answered of an edit at a log, at a later one.
 use Rattle.std.specs.Prelude.{◌≡◌, ℕ, true, false, List, ◌∷◌, ◌++◌, Result}
 use Rattle.std.specs.List.{AllByRecursion}

@@ -1,3 +1,4 @@
+-- Inner: no clause of `run` is made of it.
 -- Masks of locks.
 use Rattle.std.specs.Prelude.{◌≡◌, ℕ, ◌/◌, ◌%◌, ◌^◌, Bool, ◌==◌, List, map}
 use Rattle.node_ids.specs.Ids.{LayoutForm}

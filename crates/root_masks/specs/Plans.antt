@@ -1,3 +1,4 @@
+-- Inner: no clause of `run` is made of it.
 -- What the locks and the plan of an edit are.
 use Rattle.std.specs.Prelude.{◌≡◌, ℕ, true, List, [], ◌∷◌, ⊤, Some, None, Result, Ok, Err}
 use Rattle.std.specs.List.{AllByRecursion}

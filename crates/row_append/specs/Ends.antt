@@ -1,3 +1,4 @@
+-- Inner: no clause of `run` is made of it.
 -- Chains that grow as records are appended, and the pointer where each one ends.
 use Rattle.std.specs.Prelude.{◌≡◌, ℕ, ◌+◌, ◌*◌, ◌<◌, Bool, true, false, ◌||◌, List, [], ◌∷◌, get_or, Option, Some, None, slice_index, IsFalse}
 use Rattle.std.specs.List.{slice_get, list_any}

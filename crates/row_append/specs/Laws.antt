@@ -1,3 +1,4 @@
+-- Inner: no clause of `run` is made of it.
 -- Where chains end with one more record behind the others.
 use Rattle.std.specs.Prelude.{◌≡◌, ℕ, Bool, ◌≢◌, ◌+◌, ◌*◌, ◌<◌, ◌≤◌, ◌⊎◌, List, [], ◌∷◌, ◌++◌, length, drop, Some, IsTrue, IsFalse}
 use Rattle.std.specs.List.{slice_get, list_any}

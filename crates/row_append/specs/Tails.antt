@@ -1,3 +1,4 @@
+-- Inner: no clause of `run` is made of it.
 -- What the calls that append a record are given.
 use Rattle.std.specs.Prelude.{◌≡◌, ℕ, ◌+◌, ◌*◌}
 use Rattle.op_model.specs.declared.entry.Entry.{Entry}

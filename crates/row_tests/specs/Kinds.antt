@@ -1,3 +1,4 @@
+-- Inner: no clause of `run` is made of it.
 -- What the tests know of the words that they read.
 use Rattle.std.specs.Prelude.{◌≡◌, ℕ, ◌+◌, ◌*◌, ◌%◌, ◌^◌, ◌≤◌, List, length, slice_index}
 use Rattle.op_model.specs.declared.entry.Entry.{Entry}

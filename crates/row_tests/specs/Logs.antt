@@ -1,3 +1,4 @@
+-- Inner: no clause of `run` is made of it.
 -- What is known of words of any base, and of words whose records of edges are emptied.
 use Rattle.std.specs.Prelude.{◌≡◌, ℕ, false, List, [], ◌∷◌}
 use Rattle.std.specs.List.{AllByRecursion}

@@ -1,3 +1,4 @@
+-- Examples: no clause of `run` is made of them.
 -- The definitions, evaluated on the samples.
 use Rattle.std.specs.Prelude.{◌≡◌, ◌∷◌, length}
 use Rattle.op_model.specs.Records.{records}

@@ -1,3 +1,4 @@
+-- Inner: no clause of `run` is made of it.
 -- What contracts see of a draft: new records, and pointers of records before them that are to lead to new ones.
 use Rattle.std.specs.Prelude.{ℕ, ◌+◌, ◌-◌, ◌*◌, ◌^◌, ◌<◌, ◌≤◌, List, [], ◌∷◌, ◌++◌, length, map, min}
 use Rattle.std.specs.List.{AllByRecursion, concat}

@@ -1,3 +1,4 @@
+-- Inner: no clause of `run` is made of it.
 -- What holds after each run of the machine, in parts.
 use Rattle.std.specs.Prelude.{◌≡◌, ◌⊎◌, ℕ, suc, ◌-◌, ◌≤◌, ◌<◌, Bool, true, false, ◌==◌, List, [], ◌∷◌, length, take, slice_index, slice_get, Option, Some, None}
 use Rattle.std.specs.List.{filter, AllByRecursion}

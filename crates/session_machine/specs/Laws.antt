@@ -1,3 +1,4 @@
+-- Inner: no clause of `run` is made of it.
 -- Laws over all runs of the machine.
 use Rattle.std.specs.Prelude.{◌≡◌, ℕ, suc, ◌<◌, ◌≤◌, Bool, true, false, List, [], ◌∷◌, ◌++◌, length, reverse, slice_get, Some, None}
 use Rattle.std.specs.List.{list_any}

@@ -1,3 +1,4 @@
+-- Examples: no clause of `run` is made of them.
 -- Worked runs, each evaluated.
 use Rattle.std.specs.Prelude.{◌≡◌, ℕ, replicate, Bool, true, false, List, [], ◌∷◌, map, reverse, None}
 use Rattle.op_model.specs.declared.entry.Entry.{Entry}

@@ -1,3 +1,4 @@
+-- Inner: no clause of `run` is made of it.
 -- A core before its first step, and what is counted behind its last one.
 use Rattle.std.specs.Prelude.{ℕ, ◌+◌, Bool, List, [], ◌∷◌, ◌++◌, map}
 use Rattle.op_model.specs.declared.base.Dataset.{Dataset}

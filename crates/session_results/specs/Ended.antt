@@ -1,3 +1,4 @@
+-- Inner: no clause of `run` is made of it.
 -- What playing sessions comes to.
 use Rattle.std.specs.Prelude.{◌≡◌, ℕ, List, [], ◌∷◌, length, ⊤, Option}
 use Rattle.pcg_base.specs.States.{SinkState}

@@ -1,3 +1,4 @@
+-- Inner: no clause of `run` is made of it.
 -- The words of the table, taken apart.
 use Rattle.std.specs.Prelude.{ℕ, zero, suc, ◌+◌, Bool, true, false, ◌==◌, if◌then◌else◌, List, [], ◌∷◌, ◌++◌, Option, Some, None}
 use Rattle.op_model.specs.declared.entry.Entry.{Entry}

@@ -1,3 +1,4 @@
+-- Inner: no clause of `run` is made of it.
 -- Drafts: the words that a view knows with its own stores, when a draft is whole, and which records may be drafted.
 use Rattle.std.specs.Prelude.{◌≡◌, ℕ, zero, suc, ◌+◌, ◌*◌, ◌/◌, ◌<◌, ◌≤◌, ◌⊎◌, max, true, false, List, [], ◌∷◌, length, map, slice_index, IsSome}
 use Rattle.std.specs.Option.{unwrap_or}

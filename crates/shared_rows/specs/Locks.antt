@@ -1,3 +1,4 @@
+-- Inner: no clause of `run` is made of it.
 -- Which roots' locks an entry touches, and logs that grow beside them.
 use Rattle.std.specs.Prelude.{◌≡◌, ℕ, ◌==◌, true, false, if◌then◌else◌, List, [], ◌∷◌, ◌++◌}
 use Rattle.std.specs.List.{AllByRecursion}

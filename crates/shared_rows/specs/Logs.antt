@@ -1,3 +1,4 @@
+-- Inner: no clause of `run` is made of it.
 -- Logs that grow. A log has its newest entry first, so a log seen earlier is the end of it.
 use Rattle.std.specs.Prelude.{◌≡◌, ◌==◌, ℕ, ◌≤◌, List, [], ◌∷◌, ◌++◌}
 use Rattle.std.specs.List.{filter}

@@ -1,3 +1,4 @@
+-- Inner: no clause of `run` is made of it.
 -- What the table is told when it is made.
 use Rattle.std.specs.Prelude.{ℕ, List}
 use Rattle.op_model.specs.declared.base.Dataset.{Dataset}

@@ -1,3 +1,4 @@
+-- Inner: no clause of `run` is made of it.
 -- What one step tells: of the step, the seat before, the number found and the seat after. Locks begin at word 3, rows at word 67.
 use Rattle.std.specs.Prelude.{◌≡◌, ◌≢◌, ℕ, suc, ◌+◌, ◌*◌, ◌-◌, ◌<◌, ◌≤◌, List, [], ◌∷◌, ◌++◌, true, false, length, slice_index}
 use Rattle.std.specs.List.{AllByRecursion}

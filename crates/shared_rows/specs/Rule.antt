@@ -1,3 +1,4 @@
+-- Inner: no clause of `run` is made of it.
 -- The rule of the shared rows: what holds of the words of the table and of the views of all seats, between any two steps. The numbers in brackets are those of the six parts of docs/DEFINITIONS.md.
 use Rattle.std.specs.Prelude.{◌≡◌, ◌==◌, nat_le, ℕ, ◌+◌, ◌*◌, ◌<◌, ◌≤◌, ◌⊎◌, List, [], Bool, true, false, length, slice_index, Some, IsSome}
 use Rattle.std.specs.List.{AllByRecursion}

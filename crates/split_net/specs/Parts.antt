@@ -1,3 +1,4 @@
+-- Inner: no clause of `run` is made of it.
 -- A component's leaves and active edges, its marks, and what a least cut of their net tells.
 use Rattle.std.specs.Prelude.{◌≡◌, ℕ, ◌<◌, ◌^◌, List, [], ◌∷◌, map, length, get_or, IsTrue, Option, Some, None, Result, Ok, Err, ℤ}
 use Rattle.std.specs.List.{AllByRecursion}

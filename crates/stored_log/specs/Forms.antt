@@ -1,3 +1,4 @@
+-- Inner: no clause of `run` is made of it.
 -- Which crate answers an edit.
 use Rattle.op_model.specs.declared.request.Edit.{Edit}
 use Rattle.edit_merge.specs.Plans.{IsMerge}

@@ -1,3 +1,4 @@
+-- Inner: no clause of `run` is made of it.
 -- What the core knows of a draft.
 use Rattle.client_events.specs.declared.rows.Stamp.{Stamp}
 use Rattle.client_events.specs.declared.rows.Remade.{Remade}

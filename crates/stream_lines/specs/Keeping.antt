@@ -1,3 +1,4 @@
+-- Inner: no clause of `run` is made of it.
 -- A line that is taken of a stream and kept.
 use Rattle.std.specs.Prelude.{◌≡◌, ℕ, List, [], ◌∷◌, ◌++◌, Option, Some, None}
 use Rattle.client_events.specs.declared.lines.LineText.{LineText}

@@ -1,3 +1,4 @@
+-- Inner: no clause of `run` is made of it.
 -- The lines of a stream.
 use Rattle.std.specs.Prelude.{◌≡◌, ◌<◌, ◌≤◌, ◌^◌, ℕ, List, [], ◌∷◌, length, take, ⊤, Option, Some, None}
 use Rattle.std.specs.Io.KnownBytes.{Consumes, IsAtEnd}

@@ -1,3 +1,4 @@
+-- Inner: no clause of `run` is made of it.
 -- What the program's streams show.
 use Rattle.std.specs.Prelude.{ℕ, None}
 use Rattle.pcg_base.specs.States.{SinkState}

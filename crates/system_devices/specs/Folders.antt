@@ -1,3 +1,4 @@
+-- Inner: no clause of `run` is made of it.
 -- What a folder has counted.
 use Rattle.std.specs.Prelude.{ℕ, List, [], None}
 use Rattle.pcg_base.specs.States.{PlaceState}

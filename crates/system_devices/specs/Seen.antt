@@ -1,3 +1,4 @@
+-- Inner: no clause of `run` is made of it.
 -- What the folder keeps beside each name.
 use Rattle.std.specs.Prelude.{ℕ, List, false, IsSome, String, unwrap_or}
 use Rattle.std.specs.BTreeMap.{BTreeMap, get_by_text}

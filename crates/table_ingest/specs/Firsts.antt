@@ -1,3 +1,4 @@
+-- Inner: no clause of `run` is made of it.
 -- The first record of a table that means nothing.
 use Rattle.std.specs.Prelude.{◌≡◌, ◌⊎◌, ℕ, ◌+◌, Bool, true, List, [], ◌∷◌, ◌++◌, length, Result, Ok, Err}
 use Rattle.op_model.specs.declared.base.Dataset.{Dataset}

@@ -1,3 +1,4 @@
+-- Inner: no clause of `run` is made of it.
 -- What holds of all texts.
 use Rattle.std.specs.Prelude.{◌≡◌, ◌≤◌, ◌⊎◌, ℕ, List, length, Err}
 use Rattle.op_model.specs.declared.base.Dataset.{Dataset}

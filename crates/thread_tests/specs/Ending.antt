@@ -1,3 +1,4 @@
+-- Inner: no clause of `run` is made of it.
 -- Passes as the tests have them.
 use Rattle.std.specs.Prelude.{◌≡◌, ℕ, ◌≤◌}
 use Rattle.shared_rows.specs.Known.{Known, Place, IsIdle}

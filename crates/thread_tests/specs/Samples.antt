@@ -1,3 +1,4 @@
+-- Examples: no clause of `run` is made of them.
 -- A log of two entries, and the words of its records, written by hand from the table of records, one record a line.
 use Rattle.std.specs.Prelude.{◌≡◌, ℕ, List, [], ◌∷◌}
 use Rattle.op_model.specs.declared.base.Dataset.{Dataset}

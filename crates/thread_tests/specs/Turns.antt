@@ -1,3 +1,4 @@
+-- Inner: no clause of `run` is made of it.
 -- What the pass that publishes knows in its turn.
 use Rattle.std.specs.Prelude.{◌≡◌, [], ◌∷◌, true}
 use Rattle.op_model.specs.Samples.{base}

@@ -1,3 +1,4 @@
+-- Inner: no clause of `run` is made of it.
 -- Nodes of a chunk that the first entry made, and the entry whose changed pairs are asked of.
 use Rattle.std.specs.Prelude.{◌≡◌, ℕ, ◌≤◌, List, [], drop, Option, Some, None}
 use Rattle.std.specs.List.{filter_map}

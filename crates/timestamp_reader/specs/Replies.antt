@@ -1,3 +1,4 @@
+-- Inner: no clause of `run` is made of it.
 -- What a read is replied.
 use Rattle.std.specs.Prelude.{◌≡◌, ℕ, ◌≤◌, ◌⊎◌, List, length, Option, None, Result, Ok, Err}
 use Rattle.std.specs.Option.{option_map_or}

@@ -1,3 +1,4 @@
+-- Inner: no clause of `run` is made of it.
 -- The supervoxels of the roots of some supervoxels.
 use Rattle.std.specs.Prelude.{◌≡◌, ℕ, ◌↔◌, List, IsTrue}
 use Rattle.op_model.specs.declared.base.Dataset.{Dataset}

@@ -1,3 +1,4 @@
+-- Inner: no clause of `run` is made of it.
 -- The places of the nodes of some supervoxels, layer by layer.
 use Rattle.std.specs.Prelude.{◌≡◌, ℕ, ◌<◌, ◌≤◌, List, length, Some, IsTrue}
 use Rattle.std.specs.List.{slice_get}

@@ -1,3 +1,4 @@
+-- Inner: no clause of `run` is made of it.
 -- The last change of a pair.
 use Rattle.std.specs.Prelude.{◌≡◌, ℕ, List, None}
 use Rattle.op_model.specs.declared.base.Dataset.{Dataset}

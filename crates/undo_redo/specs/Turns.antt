@@ -1,3 +1,4 @@
+-- Inner: no clause of `run` is made of it.
 -- Undos and redos, and pairs that others have changed since.
 use Rattle.std.specs.Prelude.{ℕ, Bool, not, if◌then◌else◌, List, Option, Some, None, ⊤}
 use Rattle.std.specs.Option.{option_map_or}

@@ -1,3 +1,4 @@
+-- Inner: no clause of `run` is made of it.
 -- Laws over entries that only make pairs active.
 use Rattle.std.specs.Prelude.{◌≡◌, ℕ, ◌+◌, ◌-◌, ◌*◌, ◌≤◌, ◌<◌, ◌^◌, ◌↔◌, ◌⊎◌, ◌||◌, Bool, true, false, List, ◌∷◌, length, IsTrue}
 use Rattle.std.specs.List.{AllByRecursion}

@@ -1,3 +1,4 @@
+-- Inner: no clause of `run` is made of it.
 -- What a remake keeps of each layer after an entry that only makes pairs active: the nodes that had ends of them before, and the pairs of those nodes that the changed pairs join.
 use Rattle.std.specs.Prelude.{◌≡◌, ℕ, ◌<◌, ◌≤◌, Bool, IsTrue, ◌&&◌, ◌||◌, nat_le, List, length, ◌⊎◌}
 use Rattle.std.specs.List.{list_any, AllByRecursion}

@@ -1,3 +1,4 @@
+-- Examples: no clause of `run` is made of them.
 -- The worked log of `layer_laws`: what its merge unites, and what two changed pairs with one end would unite.
 use Rattle.std.specs.Prelude.{◌≡◌, true, false, List, [], ◌∷◌}
 use Rattle.op_model.specs.declared.entry.Changed.{Changed}

@@ -1,3 +1,4 @@
+-- Inner: no clause of `run` is made of it.
 -- The joints that nodes and changed pairs give: pairs of supervoxels, and the layers from which on they are of one node.
 use Rattle.std.specs.Prelude.{ℕ, ◌-◌, ◌≤◌, ◌==◌, ◌&&◌, nat_le, Bool, IsTrue, List, [], ◌∷◌, ◌++◌, map}
 use Rattle.std.specs.List.{AllByRecursion, filter, flat_map, list_any, slice_get}

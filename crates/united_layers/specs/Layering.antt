@@ -1,3 +1,4 @@
+-- Inner: no clause of `run` is made of it.
 -- What is known of the lists that the layers of a uniting entry are made from.
 use Rattle.std.specs.Prelude.{ℕ, true, ◌<◌, ◌≤◌, List}
 use Rattle.std.specs.List.{All}

@@ -1,3 +1,4 @@
+-- Inner: no clause of `run` is made of it.
 -- A list of supervoxels that stands for the nodes which an entry unites: of each child of such a node the least leaf is in it.
 use Rattle.std.specs.Prelude.{◌≡◌, ℕ, false, ◌-◌, ◌<◌, ◌≤◌, IsTrue, List, length}
 use Rattle.std.specs.List.{AllByRecursion}

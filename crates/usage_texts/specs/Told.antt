@@ -1,3 +1,4 @@
+-- Inner: no clause of `run` is made of it.
 -- A text that isn't told.
 use Rattle.std.specs.Prelude.{ℕ, List}
 use Rattle.pcg_base.specs.States.{SinkState}
