@@ -1,12 +1,9 @@
 -- What goes on between looks.
-use Rattle.std.proofs.Common.{◌≡◌, ℕ, ◌<◌, ◌≤◌, List, [], ◌∷◌, ◌++◌, suc, refl, sym, ap, ◌∙◌, subst, append_assoc, ◌+◌, arith}
+use Rattle.std.proofs.Common.{◌≡◌, ℕ, List, [], ◌∷◌, ◌++◌, suc, refl, sym, ap, ◌∙◌, subst, append_assoc, ◌+◌, arith}
 use Rattle.op_model.specs.declared.entry.Entry.{Entry}
-use Rattle.op_model.specs.declared.reply.Refusal.{Refusal}
 use Rattle.op_model.specs.declared.reply.Reply.{Reply}
 use Rattle.op_model.specs.declared.reply.Reply.TheVariants as reply
 use Rattle.op_model.specs.declared.request.Edit.{Edit}
-use Rattle.op_model.specs.declared.request.Request.TheVariants as request
-use Rattle.op_model.specs.Refusals.{refused}
 use Rattle.shared_rows.specs.declared.view.View.{View}
 use Rattle.shared_rows.specs.Plays.{Later}
 use Rattle.root_locks.specs.Masks.{WithLeft, WithLosses}

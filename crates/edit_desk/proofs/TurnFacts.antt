@@ -1,16 +1,14 @@
 -- What is appended in a turn, and what is replied.
-use Rattle.std.proofs.Common.{◌≡◌, ℕ, ◌+◌, ◌-◌, ◌*◌, ◌^◌, ◌<◌, ◌≤◌, true, false, List, [], ◌∷◌, ◌++◌, length, map, Option, Some, None, Result, Ok, Err, refl, sym, ap, ◌∙◌, subst, arith}
+use Rattle.std.proofs.Common.{◌≡◌, ℕ, ◌+◌, ◌-◌, ◌*◌, ◌^◌, ◌<◌, ◌≤◌, List, [], ◌∷◌, ◌++◌, length, map, Option, Some, None, Result, Ok, Err, refl, sym, ap, ◌∙◌, subst, arith}
 use Rattle.std.specs.List.{AllByRecursion}
 use Rattle.std.specs.Prelude.{slice_index}
 use Rattle.op_model.specs.declared.base.Dataset.{Dataset}
 use Rattle.op_model.specs.declared.base.Base.{Base}
 use Rattle.op_model.specs.declared.entry.Changed.{Changed}
 use Rattle.op_model.specs.declared.entry.Entry.{Entry}
-use Rattle.op_model.specs.declared.entry.Plan.{Plan}
 use Rattle.op_model.specs.declared.entry.Shown.{Shown}
 use Rattle.op_model.specs.declared.reply.Refusal.{Refusal}
 use Rattle.op_model.specs.declared.reply.Refusal.TheVariants as refusal
-use Rattle.op_model.specs.declared.reply.Reply.{Reply}
 use Rattle.op_model.specs.declared.reply.Reply.TheVariants as reply
 use Rattle.op_model.specs.declared.request.Edit.{Edit}
 use Rattle.op_model.specs.declared.request.Request.TheVariants as request
@@ -33,10 +31,10 @@ use Rattle.hierarchy_edit.proofs.Committed.{committed, fitting, rows_fit, tail_i
 use Rattle.root_masks.specs.Plans.{IsUnplanned}
 use Rattle.root_masks.proofs.Lasting.{retired_locked}
 use Rattle.shared_rows.specs.declared.view.View.{View}
-use Rattle.shared_rows.specs.Drafting.{Adds, Fills, WordsDiffer, image_after}
+use Rattle.shared_rows.specs.Drafting.{Adds, Fills, WordsDiffer}
 use Rattle.shared_rows.specs.Plays.{Later, looked, published, with_turn, without_turn}
 use Rattle.edit_desk.specs.declared.turning.Put.{Put}
-use Rattle.edit_desk.specs.Desk.{Edits, Publishes, Puts, Stays, Went, entry_for}
+use Rattle.edit_desk.specs.Desk.{Edits, Puts, Stays, entry_for}
 use Rattle.edit_desk.specs.Pins.{Pinned}
 use Rattle.edit_desk.specs.Turns.{Appends, IsPut, refusal_reply, reply_of}
 use Rattle.edit_desk.proofs.Going.{stays-same}

@@ -1,6 +1,6 @@
 -- Inner: no clause of `run` is made of it.
 -- An edit whose locks are pinned.
-use Rattle.std.specs.Prelude.{◌≡◌, ◌*◌, ◌<◌, ℕ, true, List, [], length, Some}
+use Rattle.std.specs.Prelude.{◌≡◌, ◌*◌, ◌<◌, ℕ, true, [], length, Some}
 use Rattle.std.specs.List.{AllByRecursion}
 use Rattle.graph_model.specs.Lists.{has}
 use Rattle.op_model.specs.declared.request.Edit.{Edit}

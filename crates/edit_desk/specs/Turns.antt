@@ -1,6 +1,6 @@
 -- Inner: no clause of `run` is made of it.
 -- An edit in its turn.
-use Rattle.std.specs.Prelude.{◌≡◌, ℕ, List, length, Option, Some, None, Result, Ok, Err}
+use Rattle.std.specs.Prelude.{◌≡◌, ℕ, length, Option, Some, None, Result, Ok, Err}
 use Rattle.op_model.specs.declared.entry.Shown.{Shown}
 use Rattle.op_model.specs.declared.reply.Refusal.{Refusal}
 use Rattle.op_model.specs.declared.reply.Refusal.TheVariants as refusal

@@ -1,3 +1,2 @@
 pub mod DraftFacts
-pub mod PlanFacts
 pub mod ReadFacts

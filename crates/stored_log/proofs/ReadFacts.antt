@@ -16,9 +16,7 @@ use Rattle.op_model.specs.Refusals.{refused}
 use Rattle.op_model.specs.Transcript.{read_reply}
 use Rattle.client_events.specs.Calls.{Answers, Reads}
 use Rattle.request_lines.specs.Asking.{Gives, asked}
-use Rattle.record_rows.specs.Readings.{Image}
-use Rattle.record_rows.proofs.ImageFacts.{parent_image}
-use Rattle.timestamp_reader.specs.Replies.{ImageFor, IsAnswer, reply_to}
+use Rattle.timestamp_reader.specs.Replies.{IsAnswer, reply_to}
 use Rattle.stored_log.specs.Stored.{asked_line, line_read}
 
 -- a line is what it is read as
@@ -54,10 +52,3 @@ answered d b log (read.Leaves root at) r (inl h) = reply_so d b log (read.Leaves
 answered d b log (read.Leaves root at) r (inr h) = short_so d b log (read.Leaves root at) r h.0
 answered d b log (read.Changes root at) r (inl h) = reply_so d b log (read.Changes root at) r h
 answered d b log (read.Changes root at) r (inr h) = short_so d b log (read.Changes root at) r h.0
-
--- the image of a log serves each read
-pub image_for : (q : Read) (d : Dataset) (b : Base) (log : List Entry) (words : List ℕ) → Image d b log words → ImageFor q d b log words
-image_for (read.Root v at) d b log words i = parent_image d b log words i
-image_for (read.Path v at) d b log words i = parent_image d b log words i
-image_for (read.Leaves root at) d b log words i = parent_image d b log words i
-image_for (read.Changes root at) d b log words i = i

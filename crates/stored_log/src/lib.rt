@@ -8,7 +8,7 @@
 //! - `logs`: the words of a log, with a draft that waits
 //! - `serving`: what the core asks of them
 //! - `reading`: requests, and replies to reads
-//! - `planning`: the locks and the plan of an edit, by its form
+//! - `planning`: the locks and the plan of an edit
 //! - `drafting`: a draft that waits, and the words with it
 //! - `starting`: a core over these words
 #![tactic(auto)]

@@ -1,37 +1,13 @@
-//! The locks and the plan of an edit, by its form.
+//! The locks and the plan of an edit, as the core asks for them.
 
 ghost use Rattle.std.specs.Prelude.{◌≡◌};
 ghost use Rattle.record_rows.specs.Readings.{ForEachLog, Image};
 ghost use Rattle.log_rows.specs.Entries.{HasLog};
 ghost use Rattle.client_events.specs.Calls.{Locks, Planned};
-ghost use Rattle.stored_log.specs.Forms.{IsOf};
 
 use op_model::{Dataset, Edit, Plan, Refusal};
 use pcg_base::Words;
 use std::alloc::Global;
-
-/// Which crate answers an edit.
-#[derive(Clone, Copy, Drop)]
-pub enum Form {
-    /// A merge.
-    Merge,
-    /// A split.
-    Split,
-    /// An undo or a redo.
-    Turn,
-}
-
-/// Which crate answers this edit.
-fn form_of(edit: &Edit) -> Form
-    ensures { IsOf edit.now result }
-{
-    match edit {
-        Edit::Merge { .. } => Form::Merge,
-        Edit::Split { .. } => Form::Split,
-        Edit::Undo { .. } => Form::Turn,
-        Edit::Redo { .. } => Form::Turn,
-    }
-}
 
 /// The locks of the roots that an edit touches, as bits of a mask, or its first refusal before its
 /// component, room, ids and time count. It takes no memory.
@@ -40,11 +16,7 @@ pub(crate) fn locks_of<W: Words>(w: &mut W, edit: &Edit) -> Result<u64, Refusal>
     ensures same { w.new ≡ w.old }
     ensures is { ForEachLog Image (W.words w.old) (λ d b log. Locks d b log edit.now result) }
 {
-    match form_of(edit) {
-        Form::Merge => edit_merge::locks(w, edit),
-        Form::Split => edit_split::locks(w, edit),
-        Form::Turn => undo_redo::locks(w, edit),
-    }
+    log_calls::locks(w, edit)
 }
 
 /// What an edit would change, or why there is no plan of it.
@@ -62,9 +34,5 @@ pub(crate) fn plan_of<W: Words>(
     ensures same { w.new ≡ w.old }
     ensures is { ForEachLog Image (W.words w.old) (λ d b log. Planned d b log edit result) }
 {
-    match form_of(&edit) {
-        Form::Merge => edit_merge::plan(alloc, w, dataset, edit),
-        Form::Split => edit_split::plan(alloc, w, dataset, edit),
-        Form::Turn => undo_redo::plan(alloc, w, dataset, edit),
-    }
+    log_calls::plan(alloc, w, dataset, edit)
 }

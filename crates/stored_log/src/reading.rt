@@ -6,11 +6,11 @@ ghost use Rattle.log_rows.specs.Entries.{HasLog};
 ghost use Rattle.client_events.specs.Calls.{Answers, Reads};
 ghost use Rattle.stored_log.specs.Stored.{asked_line};
 
+use log_calls::answer;
 use op_model::{LineError, Read, Reply, Request};
 use pcg_base::Words;
 use request_lines::read_line;
 use std::alloc::Global;
-use timestamp_reader::answer;
 
 /// What a line asks, or why it is no request.
 pub(crate) fn read_request(alloc: Global, line: &[u8]) -> Result<Request, LineError>

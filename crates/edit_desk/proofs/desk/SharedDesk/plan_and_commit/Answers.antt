@@ -1,4 +1,4 @@
-use Rattle.std.proofs.Common.{rules, sym, subst}
+use Rattle.std.proofs.Common.{sym, subst}
 use Rattle.shared_rows.specs.Known.{Known}
 use Rattle.edit_desk.specs.Desk.{Edits}
 use Rattle.edit_desk.proofs.TurnFacts.{unplanned-edits}
