@@ -82,6 +82,17 @@ edits-on u v w edit line (reply.Leaves leaves seen) f h = absurd h
 edits-on u v w edit line (reply.Changes ops seen) f h = absurd h
 edits-on u v w edit line (reply.BadLine error) f h = absurd h
 
+-- whatever was replied, the log that the pass sees only grew
+pub edits-went : (v w : View) (edit : Edit) (line : ℕ) (r : Reply) → Edits v edit line r w → Went v w
+edits-went v w edit line (reply.Edited op at retired made shown seen) h = h.0
+edits-went v w edit line (reply.Refused r seen) h = h.0.went
+edits-went v w edit line reply.NoMemory h = h.went
+edits-went v w edit line (reply.Root root seen) h = absurd h
+edits-went v w edit line (reply.Path nodes seen) h = absurd h
+edits-went v w edit line (reply.Leaves leaves seen) h = absurd h
+edits-went v w edit line (reply.Changes ops seen) h = absurd h
+edits-went v w edit line (reply.BadLine error) h = absurd h
+
 -- and where the locks are given back behind it
 pub edits-left : (v w x : View) (edit : Edit) (line : ℕ) (r : Reply) → Edits v edit line r w → WithLeft w [] x → Edits v edit line r x
 edits-left v w x edit line r h left = subst (Edits v edit line r) (sym left.is) (go r h)

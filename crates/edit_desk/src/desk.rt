@@ -4,7 +4,7 @@ ghost use Rattle.std.specs.Prelude.{◌≡◌, ◌*◌, ◌<◌, [], false, leng
 ghost use Rattle.root_masks.specs.Plans.{AnswersPlan};
 ghost use Rattle.shared_rows.specs.Drafting.{IsSeen};
 ghost use Rattle.timestamp_reader.specs.Replies.{IsAnswer};
-ghost use Rattle.edit_desk.specs.Desk.{Edits, IsReady, Reads, Stays};
+ghost use Rattle.edit_desk.specs.Desk.{Edits, IsReady, Reads, Stays, Went};
 ghost use Rattle.edit_desk.specs.Pins.{IsOver, Pinned, Settled};
 
 use crate::pinning::{Tried, attempt};
@@ -18,6 +18,7 @@ use std::alloc::Global;
 use std::sync::Wait;
 
 /// Where the clients of a running server read and edit.
+#[derive(Drop)]
 pub struct SharedDesk<'a, C: Clock, G: Gate> {
     /// The rows of all clients.
     pub shared: &'a Shared,
@@ -81,6 +82,7 @@ impl<'a, C: Clock, G: Gate> SharedDesk<'a, C, G> {
         requires ready { IsReady self.now.shared.now self.now.dataset.now pass.old }
         ensures ready { IsReady self.now.shared.now self.now.dataset.now pass.new }
         ensures reads { Reads pass.old.view request.now result pass.new.view }
+        ensures went { Went pass.old.view pass.new.view }
     {
         self.shared.look(pass);
         reply_at(alloc, self.shared, pass, request)
@@ -102,6 +104,7 @@ impl<'a, C: Clock, G: Gate> SharedDesk<'a, C, G> {
         requires ready { IsReady self.now.shared.now self.now.dataset.now pass.old }
         ensures ready { IsReady self.now.shared.now self.now.dataset.now pass.new }
         ensures edits { Edits pass.old.view edit line result pass.new.view }
+        ensures went { Went pass.old.view pass.new.view }
         ensures looks { pass.old.view.looks < pass.new.view.looks }
     {
         match pin_all(rt, self.shared, pass, &edit) {
