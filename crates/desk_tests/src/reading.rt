@@ -32,14 +32,14 @@ fn next_edit(alloc: Global, entries: u32) -> Option<Edit> {
         return merge(alloc);
     }
     Some(Edit::Undo {
-        op: entries as u64 - 1,
+        op: (entries as u64).saturating_sub(1),
     })
 }
 
 /// Whether the edit became this entry.
 fn is_entry(reply: &Reply, number: u32) -> bool {
     match reply {
-        Reply::Edited { op, seen, .. } => *op == number && *seen == number + 1,
+        Reply::Edited { op, seen, .. } => *op == number && *seen == number.saturating_add(1),
         _ => false,
     }
 }

@@ -1,7 +1,7 @@
 //! The rows of four supervoxels: p and q in one base chunk, r and s in the next one, with the edges p-q
 //! and q-r active and r-s not.
 
-ghost use Rattle.std.specs.Prelude.{◌≡◌, ◌*◌, ◌+◌, ◌<◌, ◌≤◌, All, IfSome, length};
+ghost use Rattle.std.specs.Prelude.{◌≡◌, ◌*◌, ◌<◌, ◌≤◌, ◌+◌, All, IfSome, length};
 ghost use Rattle.op_model.specs.Valid.{IsBase, IsDataset};
 ghost use Rattle.shared_rows.specs.Origin.{Origin};
 ghost use Rattle.shared_rows.specs.Starts.{Opens};
@@ -28,7 +28,7 @@ pub const TOP: u64 = 216172782113783808;
 /// Two base chunks side by side, and room for so many records.
 #[tactic(auto, unfolding(chunk_geometry::specs::Grids::grid_of))]
 pub fn dataset(capacity: u32) -> Dataset
-    requires { 2 ≤ capacity }
+    requires { (2 ≤ capacity) × (capacity ≤ 16777216) }
     ensures { IsDataset result }
 {
     let layout = Layout::new(8).unwrap();

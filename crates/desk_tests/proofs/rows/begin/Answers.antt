@@ -2,5 +2,5 @@ use Rattle.std.proofs.Common.{refl}
 use Rattle.desk_tests.proofs.Passing.{told_opens}
 use Rattle.desk_tests.proofs.rows.begin.Goals as goal
 
-pub start_words-requires-clause-opens : goal.start_words-requires-clause-opens
-start_words-requires-clause-opens c = told_opens c.args.dataset.now c.in_ok-base.base c.in-Ok.words.words c.in-Ok.ensures.image
+pub start_words-requires : goal.start_words-requires
+start_words-requires c = ((refl, refl), (told_opens c.args.dataset.now c.in_ok-base.base c.in-Ok.words.words c.in-Ok.ensures.image, (c.in-Ok.ensures.room, c.requires.clients)))
