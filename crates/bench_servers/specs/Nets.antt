@@ -6,10 +6,10 @@ use Rattle.graph_model.specs.Lists.{has}
 use Rattle.flow_net.specs.Net.{NetView}
 
 -- few links, and marks on both sides that are vertices, none on both
-pub record IsAsked (net : NetView) (sources sinks : List ℕ) : Type 0 where
+pub record IsAsked (net : NetView) (from to : List ℕ) : Type 0 where
   pub few : length net.links ≤ 500000
-  pub sources : All (λ s. s < net.size) sources
-  pub sinks : All (λ t. t < net.size) sinks
-  pub some : 0 < length sources
-  pub others : 0 < length sinks
-  pub sides : (v : ℕ) → has sources v ≡ true → has sinks v ≡ false
+  pub sources : All (λ s. s < net.size) from
+  pub sinks : All (λ t. t < net.size) to
+  pub some : 0 < length from
+  pub others : 0 < length to
+  pub sides : (v : ℕ) → has from v ≡ true → has to v ≡ false

@@ -7,7 +7,7 @@
 //! - `servers`: the server
 //! - `forms`: which crate answers an edit
 //! - `edits`: the locks, the plan and the entry of an edit
-//! - `objects`: the leaves and the active edges of a root
+//! - `objects`: the root of a supervoxel, with its leaves and its active edges, and replies to reads
 //! - `nets`: the net of an object's active edges, and cuts and flows over it
 //! - `datasets`: datasets of given bits, grid and capacity
 #![tactic(auto)]

@@ -1,8 +1,8 @@
 //! The net of an object's active edges, and cuts and flows over it.
 
-ghost use Rattle.std.specs.Prelude.{◌≡◌, ℕ, true, false};
+ghost use Rattle.std.specs.Prelude.{◌≡◌, ◌<◌, true};
 ghost use Rattle.graph_model.specs.Lists.{has};
-ghost use Rattle.std.specs.List.{list_any};
+ghost use Rattle.std.specs.List.{All, list_any};
 ghost use Rattle.bench_servers.specs.Nets.{IsAsked};
 
 use flow_net::{Flow, Link, Net, check_cut, is_net};
@@ -40,11 +40,7 @@ fn link_of(leaves: &[NodeId], edge: &Edge) -> Option<Link> {
 /// # Errors
 ///
 /// `AllocError` where the links can't be had.
-pub fn net_of(
-    alloc: Global,
-    leaves: &[NodeId],
-    part: &[Edge],
-) -> Result<Option<Net>, AllocError> {
+pub fn net_of(alloc: Global, leaves: &[NodeId], part: &[Edge]) -> Result<Option<Net>, AllocError> {
     let mut links = Vec::new(alloc);
     for edge in part {
         let Some(link) = link_of(leaves, edge) else {
@@ -90,12 +86,13 @@ fn has_place(places: &[u32], place: u32) -> bool
 fn share_one(sources: &[u32], sinks: &[u32]) -> bool
     ensures { result ≡ list_any (λ s. has sinks.now s) sources.now }
 {
-    for source in sources {
-        if has_place(sinks, *source) {
-            return true;
-        }
-    }
-    false
+    sources.iter().any(|source| has_place(sinks, *source))
+}
+
+fn are_below(places: &[u32], size: u32) -> bool
+    ensures { result ≡ true → All (λ s. s < size) places.now }
+{
+    places.iter().all(|s| *s < size)
 }
 
 // whether a least cut of the net may be asked between these marks
@@ -103,12 +100,13 @@ fn is_asked(net: &Net, sources: &[u32], sinks: &[u32]) -> bool
     ensures { result ≡ true → IsAsked net.now sources.now sinks.now }
 {
     let size = net.size();
-    net.links().len() <= 500000
-        && sources.iter().all(|s| *s < size)
-        && sinks.iter().all(|t| *t < size)
-        && !sources.is_empty()
-        && !sinks.is_empty()
-        && !share_one(sources, sinks)
+    if net.links().len() > 500000 || sources.is_empty() || sinks.is_empty() {
+        return false;
+    }
+    if !are_below(sources, size) || !are_below(sinks, size) || share_one(sources, sinks) {
+        return false;
+    }
+    true
 }
 
 /// The least cut of a net between vertices. `None` where none may be asked: there are over 500,000

@@ -1,4 +1,4 @@
-//! The leaves and the active edges of a root.
+//! The root of a supervoxel, with its leaves and its active edges, and replies to reads.
 
 ghost use Rattle.std.specs.Prelude.{◌≡◌, ◌≤◌, true};
 ghost use Rattle.bench_servers.specs.Servers.{HasNode, HasSupervoxel, IsServer};
@@ -6,12 +6,13 @@ ghost use Rattle.bench_servers.specs.Servers.{HasNode, HasSupervoxel, IsServer};
 use component_reader::{AmongError, component};
 use node_ids::NodeId;
 use node_reader::leaves;
-use op_model::{Dataset, EdgeList, Ids};
+use op_model::{Dataset, EdgeList, Ids, Read, Reply};
 use parent_rows::find;
 use pcg_base::{NoMemory, VecWords};
 use root_masks::{is_known, root_now};
 use row_words::Spot;
 use std::alloc::Global;
+use timestamp_reader::answer;
 
 // whether the base has the supervoxel
 fn is_here(w: &mut VecWords, dataset: &Dataset, sv: NodeId) -> bool
@@ -115,4 +116,11 @@ pub(crate) fn component_of(
     }
     let spot = root_spot(w, dataset, sv);
     component_at(alloc, w, dataset, spot, prefix.max(1), most)
+}
+
+pub(crate) fn reply_of(alloc: Global, w: &mut VecWords, dataset: &Dataset, read: &Read) -> Reply
+    requires server { IsServer dataset.now w.old.words w.old.spare }
+    ensures same { w.new ≡ w.old }
+{
+    answer(alloc, w, read)
 }

@@ -4,7 +4,7 @@ ghost use Rattle.std.specs.Prelude.{◌≡◌};
 ghost use Rattle.op_model.specs.Valid.{IsBase, IsDataset};
 
 use crate::edits::{locks_of, plan_of, put_edit};
-use crate::objects::{component_of, leaves_of, root_of};
+use crate::objects::{component_of, leaves_of, reply_of, root_of};
 use component_reader::AmongError;
 use hierarchy_build::{BuildError, build};
 use hierarchy_edit::{Remade, Stamp};
@@ -13,7 +13,6 @@ use op_model::{Base, Dataset, EdgeList, Edit, Ids, Plan, Read, Refusal, Reply};
 use pcg_base::{NoMemory, VecWords, Words};
 use std::alloc::Global;
 use std::marker::Model;
-use timestamp_reader::answer;
 
 /// The words of a log, with its dataset.
 #[derive(Drop)]
@@ -39,12 +38,7 @@ impl Server {
     /// # Errors
     ///
     /// As `hierarchy_build::build`.
-    pub fn new(
-        alloc: Global,
-        base: &Base,
-        dataset: Dataset,
-        now: u64,
-    ) -> Result<Server, BuildError>
+    pub fn new(alloc: Global, base: &Base, dataset: Dataset, now: u64) -> Result<Server, BuildError>
         requires dataset { IsDataset dataset }
         requires base { IsBase dataset base.now }
     {
@@ -89,7 +83,7 @@ impl Server {
     pub fn read(&mut self, alloc: Global, read: &Read) -> Reply
         ensures same { self.new ≡ self.old }
     {
-        answer(alloc, &mut self.words, read)
+        reply_of(alloc, &mut self.words, &self.dataset, read)
     }
 
     /// The root of a supervoxel, as the whole log left it; `None` where the base hasn't the id.

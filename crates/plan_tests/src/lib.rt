@@ -16,6 +16,20 @@
 #[cfg(test)]
 mod checks;
 #[cfg(test)]
+mod drawing;
+#[cfg(test)]
+mod history_tests;
+#[cfg(test)]
+mod plain_changes;
+#[cfg(test)]
+mod plain_cuts;
+#[cfg(test)]
+mod plain_edits;
+#[cfg(test)]
+mod plain_logs;
+#[cfg(test)]
+mod plain_members;
+#[cfg(test)]
 mod refusal_tests;
 #[cfg(test)]
 mod samples;

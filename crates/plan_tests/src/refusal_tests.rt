@@ -26,7 +26,15 @@ fn merges_are_refused(rt: HostRuntime) -> Result<(), Fail> {
     let many = Refusal::TooManyPairs { count: 65 };
     assert!(rt; refuses(&mut server, alloc, merge(alloc, &[(R, S); 65])?, many));
     let on = [(P, S, true), (R, S, true)];
-    assert!(rt; plans(&mut server, alloc, merge(alloc, &[(S, R), (P, S), (R, S)])?, 6, &on));
+    assert!(rt;
+        plans(
+            &mut server,
+            alloc,
+            merge(alloc, &[(S, R), (P, S), (R, S)])?,
+            6,
+            &on
+        )
+    );
     Ok(())
 }
 
@@ -40,9 +48,27 @@ fn turns_are_refused(rt: HostRuntime) -> Result<(), Fail> {
     assert!(rt; refuses(&mut server, alloc, undo(9), Refusal::NoSuchOp { op: 9 }));
     assert!(rt; refuses(&mut server, alloc, undo(0), Refusal::NotAnEdit { op: 0 }));
     let roots = [TOP + 1, TOP + 2];
-    assert!(rt; puts(&mut server, alloc, merge(alloc, &[(R, S)])?, 1, &roots, &[TOP + 3]));
+    assert!(rt;
+        puts(
+            &mut server,
+            alloc,
+            merge(alloc, &[(R, S)])?,
+            1,
+            &roots,
+            &[TOP + 3]
+        )
+    );
     assert!(rt; refuses(&mut server, alloc, redo(1), Refusal::InForce { op: 1 }));
-    assert!(rt; puts(&mut server, alloc, undo(1), 2, &[TOP + 3], &[TOP + 4, TOP + 5]));
+    assert!(rt;
+        puts(
+            &mut server,
+            alloc,
+            undo(1),
+            2,
+            &[TOP + 3],
+            &[TOP + 4, TOP + 5]
+        )
+    );
     assert!(rt; refuses(&mut server, alloc, undo(1), Refusal::NotInForce { op: 1 }));
     assert!(rt; refuses(&mut server, alloc, redo(2), Refusal::NotAnEdit { op: 2 }));
     Ok(())

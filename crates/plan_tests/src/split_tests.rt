@@ -16,7 +16,16 @@ fn a_walk_is_cut(rt: HostRuntime) -> Result<(), Fail> {
         panic!(rt; "a server");
     };
     let roots = [TOP + 1, TOP + 2];
-    assert!(rt; puts(&mut server, alloc, merge(alloc, &[(R, S)])?, 1, &roots, &[TOP + 3]));
+    assert!(rt;
+        puts(
+            &mut server,
+            alloc,
+            merge(alloc, &[(R, S)])?,
+            1,
+            &roots,
+            &[TOP + 3]
+        )
+    );
     let wanted = Cut {
         pairs: &[(R, S)],
         total: 5,
@@ -25,7 +34,16 @@ fn a_walk_is_cut(rt: HostRuntime) -> Result<(), Fail> {
     let edit = split(alloc, &[P], &[S])?;
     assert!(rt; splits(&mut server, alloc, edit, P, S, 8, wanted)?);
     let made = [TOP + 4, TOP + 5];
-    assert!(rt; puts(&mut server, alloc, split(alloc, &[P], &[S])?, 2, &[TOP + 3], &made));
+    assert!(rt;
+        puts(
+            &mut server,
+            alloc,
+            split(alloc, &[P], &[S])?,
+            2,
+            &[TOP + 3],
+            &made
+        )
+    );
     assert!(rt; has_leaves(&mut server, alloc, TOP + 4, &[P, Q, R]));
     assert!(rt; has_leaves(&mut server, alloc, TOP + 5, &[S]));
     Ok(())
@@ -102,6 +120,13 @@ fn splits_are_refused(rt: HostRuntime) -> Result<(), Fail> {
     assert!(rt; refuses(&mut server, alloc, split(alloc, &[P], &[S])?, apart));
     let many = Refusal::TooManyMarks { count: 65 };
     assert!(rt; refuses(&mut server, alloc, split(alloc, &[P; 65], &[Q])?, many));
-    assert!(rt; refuses(&mut server, alloc, split(alloc, &[P], &[])?, Refusal::NoMarks));
+    assert!(rt;
+        refuses(
+            &mut server,
+            alloc,
+            split(alloc, &[P], &[])?,
+            Refusal::NoMarks
+        )
+    );
     Ok(())
 }

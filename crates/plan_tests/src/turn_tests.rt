@@ -12,7 +12,14 @@ use std::test::Fail;
 // r and s merged, and p split from s
 fn put_both(server: &mut Server, alloc: Global) -> Result<bool, AllocError> {
     let roots = [TOP + 1, TOP + 2];
-    let merged = puts(server, alloc, merge(alloc, &[(R, S)])?, 1, &roots, &[TOP + 3]);
+    let merged = puts(
+        server,
+        alloc,
+        merge(alloc, &[(R, S)])?,
+        1,
+        &roots,
+        &[TOP + 3],
+    );
     let made = [TOP + 4, TOP + 5];
     let edit = split(alloc, &[P], &[S])?;
     Ok(merged && puts(server, alloc, edit, 2, &[TOP + 3], &made))
@@ -28,9 +35,27 @@ fn a_split_is_turned(rt: HostRuntime) -> Result<(), Fail> {
     assert!(rt; put_both(&mut server, alloc)?);
     assert!(rt; refuses(&mut server, alloc, undo(1), Refusal::Overtaken { by: 2 }));
     assert!(rt; plans(&mut server, alloc, undo(2), 48, &[(R, S, true)]));
-    assert!(rt; puts(&mut server, alloc, undo(2), 3, &[TOP + 4, TOP + 5], &[TOP + 6]));
+    assert!(rt;
+        puts(
+            &mut server,
+            alloc,
+            undo(2),
+            3,
+            &[TOP + 4, TOP + 5],
+            &[TOP + 6]
+        )
+    );
     assert!(rt; plans(&mut server, alloc, redo(2), 64, &[(R, S, false)]));
-    assert!(rt; puts(&mut server, alloc, redo(2), 4, &[TOP + 6], &[TOP + 7, TOP + 8]));
+    assert!(rt;
+        puts(
+            &mut server,
+            alloc,
+            redo(2),
+            4,
+            &[TOP + 6],
+            &[TOP + 7, TOP + 8]
+        )
+    );
     assert!(rt; has_leaves(&mut server, alloc, TOP + 7, &[P, Q, R]));
     assert!(rt; has_leaves(&mut server, alloc, TOP + 8, &[S]));
     Ok(())
@@ -63,10 +88,37 @@ fn undone_and_joined_otherwise(rt: HostRuntime) -> Result<(), Fail> {
         panic!(rt; "a server");
     };
     let roots = [TOP + 1, TOP + 2];
-    assert!(rt; puts(&mut server, alloc, merge(alloc, &[(R, S)])?, 1, &roots, &[TOP + 3]));
-    assert!(rt; puts(&mut server, alloc, undo(1), 2, &[TOP + 3], &[TOP + 4, TOP + 5]));
+    assert!(rt;
+        puts(
+            &mut server,
+            alloc,
+            merge(alloc, &[(R, S)])?,
+            1,
+            &roots,
+            &[TOP + 3]
+        )
+    );
+    assert!(rt;
+        puts(
+            &mut server,
+            alloc,
+            undo(1),
+            2,
+            &[TOP + 3],
+            &[TOP + 4, TOP + 5]
+        )
+    );
     let roots = [TOP + 4, TOP + 5];
-    assert!(rt; puts(&mut server, alloc, merge(alloc, &[(P, S)])?, 3, &roots, &[TOP + 6]));
+    assert!(rt;
+        puts(
+            &mut server,
+            alloc,
+            merge(alloc, &[(P, S)])?,
+            3,
+            &roots,
+            &[TOP + 6]
+        )
+    );
     assert!(rt; puts(&mut server, alloc, redo(1), 4, &[TOP + 6], &[TOP + 7]));
     assert!(rt; plans(&mut server, alloc, undo(1), 128, &[(R, S, false)]));
     assert!(rt; puts(&mut server, alloc, undo(1), 5, &[TOP + 7], &[TOP + 8]));
@@ -98,7 +150,15 @@ fn ids_are_spent(rt: HostRuntime) -> Result<(), Fail> {
         assert!(rt; puts(&mut server, alloc, redo(1), op, &[next], &halves));
         root = next;
     }
-    assert!(rt; plans(&mut server, alloc, undo(1), 13835058055282163712, &[(P, P + 1, true)]));
+    assert!(rt;
+        plans(
+            &mut server,
+            alloc,
+            undo(1),
+            13835058055282163712,
+            &[(P, P + 1, true)]
+        )
+    );
     let spent = Refusal::IdsSpent {
         layer: 2,
         x: 0,
