@@ -233,9 +233,14 @@ pub fn puts(
 
 /// Whether the edit isn't put, for this refusal.
 pub fn refuses_put(server: &mut Server, alloc: Global, edit: Edit, refusal: Refusal) -> bool {
-    match server.put(alloc, edit, stamp_of(1000)) {
+    let found = server.put(alloc, edit, stamp_of(1000));
+    is_unput(&found, &refusal)
+}
+
+fn is_unput(found: &Result<Remade, Refusal>, wanted: &Refusal) -> bool {
+    match found {
         Ok(_) => false,
-        Err(found) => found == refusal,
+        Err(refusal) => refusal == wanted,
     }
 }
 
@@ -282,7 +287,8 @@ pub fn refuses_reads(
         && is_unread(&server.read(alloc, &Read::Changes { root, at }), &wanted)
 }
 
-fn is_unread(reply: &Reply, wanted: &Refusal) -> bool {
+/// Whether the reply is this refusal.
+pub fn is_unread(reply: &Reply, wanted: &Refusal) -> bool {
     match reply {
         Reply::Refused { refusal, .. } => refusal == wanted,
         _ => false,

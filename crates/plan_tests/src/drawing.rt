@@ -126,35 +126,34 @@ fn drawn_mark<G: Rng>(numbers: &mut G, ids: &[NodeId]) -> NodeId {
     drawn_of(numbers, ids)
 }
 
-/// From 0 to 3 pairs, mostly one, and one of 40 times the same 65 times.
+fn drawn_asked<G: Rng>(numbers: &mut G, ids: &[NodeId]) -> AskedPair {
+    AskedPair {
+        a: drawn_mark(numbers, ids),
+        b: drawn_mark(numbers, ids),
+    }
+}
+
+/// From 0 to 3 pairs, mostly one, and one of 40 times 65.
 fn drawn_merge<G: Rng>(
     alloc: Global,
     numbers: &mut G,
     ids: &[NodeId],
 ) -> Result<Vec<AskedPair>, AllocError> {
     let mut pairs = Vec::new(alloc);
-    let count = match numbers.random_range(0..40u32) {
-        0 => 0,
-        1..8 => 2,
-        8..14 => 3,
-        14 => 65,
-        _ => 1,
-    };
-    let repeats = count == 65;
-    let mut pair = AskedPair {
-        a: drawn_mark(numbers, ids),
-        b: drawn_mark(numbers, ids),
-    };
-    for _ in 0..count {
-        pairs.push(pair)?;
-        if !repeats {
-            pair = AskedPair {
-                a: drawn_mark(numbers, ids),
-                b: drawn_mark(numbers, ids),
-            };
-        }
+    for _ in 0..drawn_count(numbers, 3) {
+        pairs.push(drawn_asked(numbers, ids))?;
     }
     Ok(pairs)
+}
+
+/// How many are in a list: mostly one, one of 40 times none, another one 65, and else from 2 to so many.
+fn drawn_count<G: Rng>(numbers: &mut G, most: u32) -> u32 {
+    match numbers.random_range(0..40u32) {
+        0 => 0,
+        1 => 65,
+        2..16 => numbers.random_range(2..most.max(2).min(9) + 1),
+        _ => 1,
+    }
 }
 
 /// The supervoxels with the root of a drawn one, or one of 5 times all of them.
@@ -175,26 +174,15 @@ fn drawn_side<G: Rng>(
     Ok(list)
 }
 
-/// From 0 to 2 of these marks, mostly one, and one of 40 times the same 65 times.
+/// From 0 to 2 of these marks, mostly one, and one of 40 times 65.
 fn drawn_marks<G: Rng>(
     alloc: Global,
     numbers: &mut G,
     ids: &[NodeId],
 ) -> Result<Vec<NodeId>, AllocError> {
     let mut marks = Vec::new(alloc);
-    let count = match numbers.random_range(0..40u32) {
-        0 => 0,
-        1..12 => 2,
-        12 => 65,
-        _ => 1,
-    };
-    let repeats = count == 65;
-    let mut mark = drawn_mark(numbers, ids);
-    for _ in 0..count {
-        marks.push(mark)?;
-        if !repeats {
-            mark = drawn_mark(numbers, ids);
-        }
+    for _ in 0..drawn_count(numbers, 2) {
+        marks.push(drawn_mark(numbers, ids))?;
     }
     Ok(marks)
 }

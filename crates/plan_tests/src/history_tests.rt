@@ -1,6 +1,6 @@
 //! The calls on drawn histories beside the plain program.
 
-use crate::checks::{cuts_least, is_barred, is_mask, is_refused};
+use crate::checks::{cuts_least, is_barred, is_mask, is_refused, is_unread};
 use crate::drawing::{drawn_edit, drawn_tables};
 use crate::plain_changes::{active_among, changes_of};
 use crate::plain_edits::{Asked, Change, change_of, early_refusal, edit_of, late_refusal, mask_of};
@@ -73,17 +73,9 @@ fn is_planned(
     cuts_least(server, alloc, sources, asked.sinks.as_slice(), plan)
 }
 
-/// Whether locks and plan are refused as is wanted.
-fn is_all_refused(
-    locks: &Result<u64, Refusal>,
-    plan: &Result<Plan, Refusal>,
-    early: Option<Refusal>,
-    refusal: Refusal,
-) -> bool {
-    match early {
-        Some(early) => is_barred(locks, &early) && is_refused(plan, &refusal),
-        None => is_refused(plan, &refusal),
-    }
+/// Nothing where all is alike, else the subject.
+fn unless(alike: bool, subject: Subject) -> Option<Subject> {
+    if alike { None } else { Some(subject) }
 }
 
 fn is_entry(found: &Remade, step: &Step, op: usize) -> bool {
@@ -123,6 +115,26 @@ fn puts_alike(
     Ok(is_entry(&found, step, op))
 }
 
+/// The first subject in which an edit differs that isn't refused. It is put.
+fn change_differs(
+    server: &mut Server,
+    alloc: Global,
+    log: &mut Log,
+    asked: &Asked,
+    plan: &Plan,
+    tally: &mut Tally,
+) -> Result<Option<Subject>, Fail> {
+    let Some(change) = change_of(alloc, log, asked)? else {
+        return Ok(Some(Subject::Plan));
+    };
+    if !is_planned(server, alloc, asked, plan, &change)? {
+        return Ok(Some(Subject::Plan));
+    }
+    tally.add(asked.kind);
+    let alike = puts_alike(server, alloc, log, asked, &change)?;
+    Ok(unless(alike, Subject::Entry))
+}
+
 /// The first subject in which an edit differs. It is put where it isn't refused.
 fn edit_differs(
     server: &mut Server,
@@ -133,37 +145,21 @@ fn edit_differs(
 ) -> Result<Option<Subject>, Fail> {
     let locks = server.locks(&edit_of(alloc, asked)?);
     let plan = server.plan(alloc, edit_of(alloc, asked)?);
-    let early = early_refusal(log, asked);
-    if early.is_none() && !is_mask(&locks, mask_of(log, asked)) {
+    if let Some(refusal) = early_refusal(log, asked) {
+        let alike = is_barred(&locks, &refusal) && is_refused(&plan, &refusal);
+        return Ok(unless(alike, Subject::Locks));
+    }
+    if !is_mask(&locks, mask_of(log, asked)) {
         return Ok(Some(Subject::Locks));
     }
-    let refusal = match early {
-        Some(refusal) => Some(refusal),
-        None => late_refusal(alloc, log, asked)?,
-    };
-    if let Some(refusal) = refusal {
-        if early.is_none() {
-            tally.glued = tally.glued.wrapping_add(1);
-        }
-        if is_all_refused(&locks, &plan, early, refusal) {
-            return Ok(None);
-        }
-        return Ok(Some(Subject::Plan));
+    if let Some(refusal) = late_refusal(alloc, log, asked)? {
+        tally.glued = tally.glued.wrapping_add(1);
+        return Ok(unless(is_refused(&plan, &refusal), Subject::Plan));
     }
-    let Some(change) = change_of(alloc, log, asked)? else {
-        return Ok(Some(Subject::Plan));
-    };
     let Ok(plan) = plan else {
         return Ok(Some(Subject::Plan));
     };
-    if !is_planned(server, alloc, asked, &plan, &change)? {
-        return Ok(Some(Subject::Plan));
-    }
-    if !puts_alike(server, alloc, log, asked, &change)? {
-        return Ok(Some(Subject::Entry));
-    }
-    tally.add(asked.kind);
-    Ok(None)
+    change_differs(server, alloc, log, asked, &plan, tally)
 }
 
 /// Whether a read of a root's changes at a time gives these entries.
@@ -182,10 +178,8 @@ fn are_changes(
 
 /// Whether a read of a root's changes at a time is refused, since no entry had made it.
 fn is_unmade(server: &mut Server, alloc: Global, root: NodeId, at: u64) -> bool {
-    match server.read(alloc, &Read::Changes { root, at: Some(at) }) {
-        Reply::Refused { refusal, .. } => refusal == Refusal::NoSuchRoot { id: root },
-        _ => false,
-    }
+    let reply = server.read(alloc, &Read::Changes { root, at: Some(at) });
+    is_unread(&reply, &Refusal::NoSuchRoot { id: root })
 }
 
 /// Whether the changes of a root that an entry made are alike: at that entry, at the last one, and
