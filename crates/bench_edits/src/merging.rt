@@ -39,8 +39,7 @@ fn merge_drawn(
     server: &mut Server,
     ids: &[NodeId],
     numbers: &mut Xoshiro256PlusPlus,
-) -> bool
-{
+) -> bool {
     if ids.is_empty() {
         return false;
     }
@@ -57,8 +56,7 @@ pub fn merge_tenth<R: Clock>(
     ids: &[NodeId],
     numbers: &mut Xoshiro256PlusPlus,
     count: u32,
-) -> Option<Tenth>
-{
+) -> Option<Tenth> {
     let start = Instant::now(rt).ok()?;
     let mut accepted: u64 = 0;
     for _ in 0..count {

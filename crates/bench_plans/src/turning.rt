@@ -28,11 +28,7 @@ pub struct Rates {
 }
 
 /// The merge of two drawn supervoxels.
-fn drawn_merge(
-    alloc: Global,
-    ids: &[NodeId],
-    numbers: &mut Xoshiro256PlusPlus,
-) -> Option<Edit> {
+fn drawn_merge(alloc: Global, ids: &[NodeId], numbers: &mut Xoshiro256PlusPlus) -> Option<Edit> {
     if ids.is_empty() {
         return None;
     }

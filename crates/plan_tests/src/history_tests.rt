@@ -323,7 +323,7 @@ fn drawn_histories_agree(rt: HostRuntime) -> Result<(), Fail> {
         turns: 0,
         glued: 0,
     };
-    for number in 0..20usize {
+    for number in 0..300usize {
         let subject = differs(alloc, number, &mut numbers, &mut tally)?;
         assert_eq!(rt; subject, None, "history {number}");
     }
@@ -334,7 +334,7 @@ fn drawn_histories_agree(rt: HostRuntime) -> Result<(), Fail> {
         glued,
     } = tally;
     assert!(rt;
-        merges > 5 && splits > 5 && turns > 5 && glued > 0,
+        merges > 100 && splits > 100 && turns > 100 && glued > 10,
         "{merges} {splits} {turns} {glued}"
     );
     Ok(())
