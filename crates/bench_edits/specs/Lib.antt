@@ -1,1 +1,1 @@
-pub mod Servers
+pub mod Bases

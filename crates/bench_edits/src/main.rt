@@ -16,22 +16,21 @@
 ghost use Rattle.std.specs.Prelude.{◌≡◌, ◌≤◌};
 ghost use Rattle.made_input.specs.Edges.{IsWish};
 ghost use Rattle.op_model.specs.Valid.{IsDataset};
-ghost use Rattle.bench_edits.specs.Servers.{IsCount, IsServer, IsWide};
+ghost use Rattle.bench_edits.specs.Bases.{IsCount, IsWide};
 
 mod merging;
 mod serving;
 mod words;
 
+use bench_servers::Server;
 use chunk_geometry::Grid;
 use made_bases::made_base;
 use made_input::Wish as Made;
 use merging::{Tenth, merge_tenth};
 use node_ids::{Layout, NodeId};
 use op_model::Dataset;
-use pcg_base::{VecWords, Words};
 use rand_core::SeedableRng;
 use rand_xoshiro::Xoshiro256PlusPlus;
-use serving::serve;
 use std::alloc::Global;
 use std::process::ExitCode;
 use std::rt::Clock;
@@ -93,13 +92,10 @@ fn dataset_of(capacity: u32) -> Dataset
 fn merge_all<R: Clock>(
     rt: &R,
     alloc: Global,
-    w: &mut VecWords,
-    dataset: &Dataset,
+    server: &mut Server,
     ids: &[NodeId],
     wish: Wish,
-) -> Option<(Tenth, Tenth, Tenth)>
-    requires server { IsServer dataset.now w.old.words w.old.spare }
-{
+) -> Option<(Tenth, Tenth, Tenth)> {
     let mut numbers = Xoshiro256PlusPlus::seed_from_u64(wish.seed);
     let each = wish.edits / 10;
     let mut first = Tenth {
@@ -115,7 +111,7 @@ fn merge_all<R: Clock>(
         time: 0,
     };
     for k in 0..10 {
-        last = merge_tenth(rt, alloc, w, dataset, ids, &mut numbers, each)?;
+        last = merge_tenth(rt, alloc, server, ids, &mut numbers, each)?;
         if k == 0 {
             first = last;
         }
@@ -133,13 +129,13 @@ fn run<R: Clock>(rt: &R, alloc: Global, wish: Wish) -> Option<Timed>
     let made = made_of(wish.count, wish.seed, &dataset);
     let base = made_base(alloc, &made, &dataset).ok()?;
     let start = Instant::now(rt).ok()?;
-    let mut w = serve(alloc, &base, &dataset).ok()?;
+    let mut server = Server::new(alloc, &base, dataset, 0).ok()?;
     let build = start.elapsed(rt).ok()?;
-    let before = w.len();
+    let before = server.records();
     let ids = base.supervoxels.list.as_slice();
-    let (first, last, all) = merge_all(rt, alloc, &mut w, &dataset, ids, wish)?;
+    let (first, last, all) = merge_all(rt, alloc, &mut server, ids, wish)?;
     Some(Timed {
-        records: (w.len() - before.min(w.len())) / 8,
+        records: server.records().saturating_sub(before),
         build: build.as_micros(),
         first,
         last,

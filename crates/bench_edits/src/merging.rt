@@ -1,12 +1,8 @@
 //! Merges of drawn supervoxels.
 
-ghost use Rattle.std.specs.Prelude.{◌≡◌, ◌<◌, length};
-ghost use Rattle.bench_edits.specs.Servers.{IsServer};
-
 use crate::serving::merge;
+use bench_servers::Server;
 use node_ids::NodeId;
-use op_model::Dataset;
-use pcg_base::VecWords;
 use rand::RngExt;
 use rand_xoshiro::Xoshiro256PlusPlus;
 use std::alloc::Global;
@@ -40,39 +36,31 @@ impl Tenth {
 /// Asks for the merge of two drawn supervoxels, and answers whether it was accepted.
 fn merge_drawn(
     alloc: Global,
-    w: &mut VecWords,
-    dataset: &Dataset,
+    server: &mut Server,
     ids: &[NodeId],
     numbers: &mut Xoshiro256PlusPlus,
-) -> bool
-    requires server { IsServer dataset.now w.old.words w.old.spare }
-    ensures server { IsServer dataset.now w.new.words w.new.spare }
-{
+) -> bool {
     if ids.is_empty() {
         return false;
     }
     let a = ids[numbers.random_range(0..ids.len())];
     let b = ids[numbers.random_range(0..ids.len())];
-    merge(alloc, w, dataset, a, b)
+    merge(alloc, server, a, b)
 }
 
 /// Asks for so many merges of drawn supervoxels, and times them.
 pub fn merge_tenth<R: Clock>(
     rt: &R,
     alloc: Global,
-    w: &mut VecWords,
-    dataset: &Dataset,
+    server: &mut Server,
     ids: &[NodeId],
     numbers: &mut Xoshiro256PlusPlus,
     count: u32,
-) -> Option<Tenth>
-    requires server { IsServer dataset.now w.old.words w.old.spare }
-    ensures server { IsServer dataset.now w.new.words w.new.spare }
-{
+) -> Option<Tenth> {
     let start = Instant::now(rt).ok()?;
     let mut accepted: u64 = 0;
     for _ in 0..count {
-        if merge_drawn(alloc, w, dataset, ids, numbers) {
+        if merge_drawn(alloc, server, ids, numbers) {
             accepted = accepted.saturating_add(1);
         }
     }

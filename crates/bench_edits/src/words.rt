@@ -1,7 +1,7 @@
 //! The words of the command line.
 
 ghost use Rattle.std.specs.Prelude.{◌≤◌, IfSome};
-ghost use Rattle.bench_edits.specs.Servers.{IsCount};
+ghost use Rattle.bench_edits.specs.Bases.{IsCount};
 
 use node_ids::read_digits;
 use std::rt::Env;
