@@ -1,4 +1,4 @@
-//! How the program is used.
+//! How the program is used, and what the values of its options are.
 
 /// All modes, with their options and an example each.
 pub const USAGE: [&str; 26] = [
@@ -29,3 +29,18 @@ pub const USAGE: [&str; 26] = [
     "      --from 1 --size 20000 --requests 50 first second\n",
     "\nA number is decimal digits without a sign or a leading zero.\n",
 ];
+
+/// What the value of an option has to be, or nothing for the name of a file.
+pub fn form_text(option: &str) -> &'static [u8] {
+    match option {
+        "bits" => b"a number from 1 to 16",
+        "grid" => b"three numbers NX,NY,NZ, each from 1 to 2^B",
+        "merge-affinity" => b"a number from 1 to 4294967295",
+        "records" => b"a number from 2 to 16777216",
+        "clock" => b"two numbers START,STEP, each below 2^62",
+        "from" => b"a number below 2^64",
+        "size" => b"a number from 1 to 1000000",
+        "requests" => b"a number from 0 to 100000",
+        _ => b"",
+    }
+}

@@ -1,22 +1,23 @@
-//! What a person is told of words that are no job.
+//! Sentences on their way to a person.
 
 ghost use Rattle.pcg_base.specs.Causes.{HasCause};
 ghost use Rattle.usage_texts.specs.Told.{PutsSome};
 
+use crate::sentences::Sentence;
 use crate::texts::USAGE;
-use crate::wrong::{Wrong, wrong_in};
+use crate::wrong::wrong_in;
 use pcg_base::{Failed, Sink};
 use request_lines::Page;
 
-/// How many bytes of a word are shown.
-const SHOWN: usize = 80;
+/// How many bytes of a part are shown.
+const SHOWN: usize = 1024;
 
-/// Puts a word on a page, with a question mark for each byte that isn't plain text.
-fn put_shown<K: Sink>(page: &mut Page, out: &mut K, word: &[u8])
+/// Puts a part of a sentence on a page, with a question mark for each byte that isn't plain text.
+fn put_shown<K: Sink>(page: &mut Page, out: &mut K, part: &[u8])
     ensures { PutsSome (K.state out.old) (K.state out.new) page.old page.new }
 {
-    for at in 0..word.len().min(SHOWN) {
-        let byte = word[at];
+    for at in 0..part.len().min(SHOWN) {
+        let byte = part[at];
         let shown = if (32..127).contains(&byte) {
             byte
         } else {
@@ -26,13 +27,23 @@ fn put_shown<K: Sink>(page: &mut Page, out: &mut K, word: &[u8])
     }
 }
 
-/// Puts what is wrong on a page.
-fn put_wrong<K: Sink>(page: &mut Page, out: &mut K, wrong: &Wrong<'_>)
+/// Puts parts on a page, one behind the other.
+fn put_parts<K: Sink>(page: &mut Page, out: &mut K, parts: &[&[u8]])
     ensures { PutsSome (K.state out.old) (K.state out.new) page.old page.new }
 {
-    page.put(out, wrong.front.as_bytes());
-    put_shown(page, out, wrong.word);
-    page.put(out, wrong.back.as_bytes());
+    for part in parts {
+        put_shown(page, out, part);
+    }
+}
+
+/// Puts a sentence on a page, as a line that begins with the program's name. It shows at most 1024 bytes of
+/// each part, and a question mark for each byte that isn't plain text.
+pub fn put_sentence<K: Sink>(page: &mut Page, out: &mut K, sentence: &Sentence<'_>)
+    ensures { PutsSome (K.state out.old) (K.state out.new) page.old page.new }
+{
+    page.put(out, b"pcg: ");
+    put_parts(page, out, sentence.parts());
+    page.put(out, b"\n");
 }
 
 /// Puts how the program is used on a page.
@@ -49,7 +60,7 @@ pub fn write_usage<K: Sink>(words: &[Vec<u8>], out: &mut K) -> Result<(), Failed
     ensures { HasCause (K.state out.old).faults (K.state out.new).faults result }
 {
     let mut page = Page::new();
-    put_wrong(&mut page, out, &wrong_in(words));
+    put_sentence(&mut page, out, &wrong_in(words));
     put_usage(&mut page, out);
     page.finish(out)
 }

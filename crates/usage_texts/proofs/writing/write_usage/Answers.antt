@@ -4,4 +4,4 @@ use Rattle.usage_texts.proofs.writing.write_usage.Goals as goal
 
 pub returns : goal.returns
 returns g c =
-    whole_has_cause c.finish.result c.new-page.ensures.fresh ((both_some c.put_wrong.ensures c.put_usage.ensures).1) c.finish.ensures.puts c.finish.ensures.ok c.finish.ensures.err
+    whole_has_cause c.finish.result c.new-page.ensures.fresh ((both_some c.put_sentence.ensures c.put_usage.ensures).1) c.finish.ensures.puts c.finish.ensures.ok c.finish.ensures.err

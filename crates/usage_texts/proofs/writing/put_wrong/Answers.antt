@@ -1,5 +1,0 @@
-use Rattle.usage_texts.proofs.Some.{both_some, some_then}
-use Rattle.usage_texts.proofs.writing.put_wrong.Goals as goal
-
-pub returns : goal.returns
-returns g c = some_then _ (both_some (_, c.put.ensures) c.put_shown.ensures) c.put-2.ensures
