@@ -1,7 +1,7 @@
 //! The locks and the plans of merges, undos and redos, on the words of three logs.
 
 use crate::datasets::dataset;
-use crate::log_calls::{Wanted, merges, turns};
+use crate::edit_calls::{Wanted, merges, turns};
 use crate::names::*;
 use crate::samples::{halved, ingested, regained};
 use node_ids::NodeId;

@@ -27,7 +27,7 @@
 //! - `calls`, `entry_calls`: each call, where what it requires is there
 //! - `checks`: whether calls answer what is wanted, at each prefix and of lists
 //! - `word_tests`, `read_tests`, `reply_tests`: the tests of the samples
-//! - `log_calls`, `edit_tests`: the locks and the plans of merges, undos and redos
+//! - `edit_calls`, `edit_tests`: the locks and the plans of merges, undos and redos
 //! - `datasets`, `tables`: what is drawn
 //! - `wanted`: what the plain program finds
 //! - `reads`, `replies`: one read, and whether its reply is what is wanted
@@ -47,7 +47,7 @@ mod checks;
 #[cfg(test)]
 mod datasets;
 #[cfg(test)]
-mod log_calls;
+mod edit_calls;
 #[cfg(test)]
 mod edit_tests;
 #[cfg(test)]
