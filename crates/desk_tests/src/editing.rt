@@ -95,7 +95,14 @@ fn one_of_equal_merges_is_accepted(rt: HostRuntime) {
             accepted: AtomicU32::new(0),
             refused: AtomicU32::new(0),
         };
-        merge_all(&rt, alloc, &shared, &dataset, passes.as_mut_slice(), &counts);
+        merge_all(
+            &rt,
+            alloc,
+            &shared,
+            &dataset,
+            passes.as_mut_slice(),
+            &counts,
+        );
         assert!(rt; counts.accepted.load(Ordering::SeqCst) == 1);
         assert!(rt; counts.refused.load(Ordering::SeqCst) == 7);
     }
