@@ -11,7 +11,7 @@ use core_steps::{ClientLines, Core};
 use hierarchy_build::build;
 use node_ids::Layout;
 use op_model::Dataset;
-use pcg_base::Ticks;
+use pcg_base::{NoMemory, Ticks};
 use std::alloc::{AllocError, Global};
 use std::test::Fail;
 use stored_log::{StoredLog, start};
@@ -65,7 +65,7 @@ fn dataset_of(session: &Session<'_>) -> Result<Dataset, Fail>
     let layout = Layout::new(session.bits)?;
     let grid = Grid::new(session.wide, 1, 1)?;
     if layout.bits() < 8 || grid.nx() > 256 || session.records < 2 || session.records > 16777216 {
-        return Err(Fail);
+        return Err(Fail::from(NoMemory));
     }
     Ok(Dataset {
         layout,
@@ -86,7 +86,7 @@ fn client_lines(alloc: Global, text: &str) -> Result<ClientLines, Fail>
         }
     }
     if lines.len() > 1000 {
-        return Err(Fail);
+        return Err(Fail::from(NoMemory));
     }
     Ok(ClientLines {
         lines,

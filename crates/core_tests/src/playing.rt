@@ -9,7 +9,7 @@ use crate::texts::spelled;
 use client_events::{Act, Client};
 use core_steps::{Core, Step};
 use memory_devices::MemSink;
-use pcg_base::{VecWords, Words};
+use pcg_base::{NoMemory, VecWords, Words};
 use std::alloc::Global;
 use std::fmt::Write;
 use std::test::Fail;
@@ -94,7 +94,12 @@ fn counts_of(alloc: Global, clients: &[Client]) -> Result<Vec<u64>, Fail> {
 }
 
 /// One step of a client.
-fn step(alloc: Global, core: &mut Core<StoredLog>, client: u32, outlet: &mut Collected) -> Step
+fn one_step(
+    alloc: Global,
+    core: &mut Core<StoredLog>,
+    client: u32,
+    outlet: &mut Collected,
+) -> Step
     requires runs { IsRunning core.old }
     ensures runs { IsRunning core.new }
 {
@@ -116,7 +121,7 @@ fn step_told(
 {
     let before = state_of(alloc, core)?;
     let counts = counts_of(alloc, core.clients.as_slice())?;
-    let came = step(alloc, core, client, outlet);
+    let came = one_step(alloc, core, client, outlet);
     let same = counts == counts_of(alloc, core.clients.as_slice())?
         && before == state_of(alloc, core)?;
     Ok((came, !same))
@@ -138,7 +143,7 @@ fn play(
         put_step(&mut steps, *client, came)?;
         let moved = matches!(came, Step::Moved(_));
         if changed && !moved {
-            return Err(Fail);
+            return Err(Fail::from(NoMemory));
         }
     }
     Ok(steps)
@@ -193,4 +198,37 @@ pub fn gives(
     let came = played(alloc, session)?;
     let want = spelled(alloc, replies)?;
     Ok(came.steps.as_str() == steps && came.replies == want)
+}
+
+/// The replies to lines of client 1 behind others.
+fn replies_behind(
+    alloc: Global,
+    before: &[u8],
+    replies: &str,
+) -> Result<Vec<u8>, Fail> {
+    let mut all = Vec::from_slice(alloc, before)?;
+    all.extend_from_slice(b"1 ")?;
+    all.extend_from_slice(spelled(alloc, replies)?.as_slice())?;
+    all.push(b'\n')?;
+    Ok(all)
+}
+
+/// Whether client 1 is refused a further line by this reply, and the log, its records, the locks and
+/// the turn are as they are without it.
+pub fn refuses(
+    alloc: Global,
+    session: &Session<'_>,
+    line: &str,
+    reply: &str,
+) -> Result<bool, Fail> {
+    let before = played(alloc, session)?;
+    let mut lines = String::from_str(alloc, session.lines[0])?;
+    lines.push_str(line)?;
+    let longer = Session {
+        lines: [lines.as_str(), "", ""],
+        ..*session
+    };
+    let came = played(alloc, &longer)?;
+    let want = replies_behind(alloc, before.replies.as_slice(), reply)?;
+    Ok(came.state == before.state && came.replies == want)
 }

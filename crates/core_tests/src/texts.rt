@@ -35,3 +35,12 @@ pub fn spelled(alloc: Global, text: &str) -> Result<Vec<u8>, Fail> {
     }
     Ok(out)
 }
+
+/// So many times the same text.
+pub fn repeated(alloc: Global, text: &str, count: usize) -> Result<String, Fail> {
+    let mut all = String::new(alloc);
+    for _ in 0..count {
+        all.push_str(text)?;
+    }
+    Ok(all)
+}
