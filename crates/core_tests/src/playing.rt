@@ -173,7 +173,7 @@ fn play_all(
 }
 
 /// What a session comes to.
-pub fn played(alloc: Global, session: &Session<'_>) -> Result<Played, Fail> {
+pub fn play_session(alloc: Global, session: &Session<'_>) -> Result<Played, Fail> {
     let fails = Vec::from_slice(alloc, session.fails)?;
     let out = MemSink::new(alloc, 65536, 1048576, fails)?;
     let mut outlet = Collected { out };
@@ -195,7 +195,7 @@ pub fn gives(
     steps: &str,
     replies: &str,
 ) -> Result<bool, Fail> {
-    let came = played(alloc, session)?;
+    let came = play_session(alloc, session)?;
     let want = spelled(alloc, replies)?;
     Ok(came.steps.as_str() == steps && came.replies == want)
 }
@@ -221,14 +221,14 @@ pub fn refuses(
     line: &str,
     reply: &str,
 ) -> Result<bool, Fail> {
-    let before = played(alloc, session)?;
+    let before = play_session(alloc, session)?;
     let mut lines = String::from_str(alloc, session.lines[0])?;
     lines.push_str(line)?;
     let longer = Session {
         lines: [lines.as_str(), "", ""],
         ..*session
     };
-    let came = played(alloc, &longer)?;
+    let came = play_session(alloc, &longer)?;
     let want = replies_behind(alloc, before.replies.as_slice(), reply)?;
     Ok(came.state == before.state && came.replies == want)
 }
