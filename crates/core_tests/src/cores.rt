@@ -110,11 +110,11 @@ fn listed(
     Ok(list)
 }
 
-/// The core of a session before its first step.
-pub fn begin(alloc: Global, session: &Session<'_>) -> Result<Core<StoredLog>, Fail>
+/// The core of a session before its first step, where client 1 has these lines.
+pub fn begin(alloc: Global, session: &Session<'_>, first: &str) -> Result<Core<StoredLog>, Fail>
     ensures { IfOk result IsRunning }
 {
-    let first = client_lines(alloc, session.lines[0])?;
+    let first = client_lines(alloc, first)?;
     let second = client_lines(alloc, session.lines[1])?;
     let third = client_lines(alloc, session.lines[2])?;
     let list = listed(alloc, first, second, third)?;

@@ -172,12 +172,12 @@ fn play_all(
     Ok((steps, state_of(alloc, core)?))
 }
 
-/// What a session comes to.
-pub fn play_session(alloc: Global, session: &Session<'_>) -> Result<Played, Fail> {
+/// What a session comes to, where client 1 has these lines.
+fn play_session(alloc: Global, session: &Session<'_>, first: &str) -> Result<Played, Fail> {
     let fails = Vec::from_slice(alloc, session.fails)?;
     let out = MemSink::new(alloc, 65536, 1048576, fails)?;
     let mut outlet = Collected { out };
-    let mut core = begin(alloc, session)?;
+    let mut core = begin(alloc, session, first)?;
     let came = play_all(alloc, &mut core, session.schedule, &mut outlet);
     drop(core);
     let (steps, state) = came?;
@@ -195,7 +195,7 @@ pub fn gives(
     steps: &str,
     replies: &str,
 ) -> Result<bool, Fail> {
-    let came = play_session(alloc, session)?;
+    let came = play_session(alloc, session, session.lines[0])?;
     let want = spelled(alloc, replies)?;
     Ok(came.steps.as_str() == steps && came.replies == want)
 }
@@ -221,14 +221,10 @@ pub fn refuses(
     line: &str,
     reply: &str,
 ) -> Result<bool, Fail> {
-    let before = play_session(alloc, session)?;
+    let before = play_session(alloc, session, session.lines[0])?;
     let mut lines = String::from_str(alloc, session.lines[0])?;
     lines.push_str(line)?;
-    let longer = Session {
-        lines: [lines.as_str(), "", ""],
-        ..*session
-    };
-    let came = play_session(alloc, &longer)?;
+    let came = play_session(alloc, session, lines.as_str())?;
     let want = replies_behind(alloc, before.replies.as_slice(), reply)?;
     Ok(came.state == before.state && came.replies == want)
 }
