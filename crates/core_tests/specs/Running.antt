@@ -1,6 +1,6 @@
 -- Inner: no clause of `run` is made of it.
 -- A core over the records of a log in memory, between two steps.
-use Rattle.std.specs.Prelude.{ℕ, ◌<◌, ◌^◌, length}
+use Rattle.std.specs.Prelude.{◌<◌, ◌^◌, length}
 use Rattle.core_steps.specs.declared.cores.Core.{Core}
 use Rattle.core_steps.specs.declared.starting.ClientLines.{ClientLines}
 use Rattle.core_steps.specs.Places.{IsSound}

@@ -1,6 +1,6 @@
 //! A session's core before its first step.
 
-ghost use Rattle.std.specs.Prelude.{◌≡◌, ◌∷◌, [], IfOk};
+ghost use Rattle.std.specs.Prelude.{◌≡◌, ◌≤◌, ◌∷◌, [], IfOk};
 ghost use Rattle.op_model.specs.Valid.{IsDataset};
 ghost use Rattle.core_tests.specs.Running.{IsRunning, IsShort};
 
@@ -58,21 +58,52 @@ pub fn alone<'a>(lines: &'a str) -> Session<'a> {
     }
 }
 
+/// So many base chunks side by side, and room for so many records.
+#[tactic(auto, unfolding(chunk_geometry::specs::Grids::grid_of))]
+fn wide_dataset(wide: u32, records: u32) -> Dataset
+    requires { (1 ≤ wide) × (wide ≤ 256) × (2 ≤ records) × (records ≤ 16777216) }
+    ensures { IsDataset result }
+{
+    let layout = Layout::new(8).unwrap();
+    let grid = Grid::new(wide, 1, 1).unwrap();
+    Dataset {
+        layout,
+        grid,
+        merge_affinity: 1,
+        capacity: records,
+    }
+}
+
+/// One base chunk whose nodes have numbers of eight bits, and room for so many records.
+#[tactic(auto, unfolding(chunk_geometry::specs::Grids::grid_of))]
+fn small_dataset(records: u32) -> Dataset
+    requires { (2 ≤ records) × (records ≤ 16777216) }
+    ensures { IsDataset result }
+{
+    let layout = Layout::new(16).unwrap();
+    let grid = Grid::new(1, 1, 1).unwrap();
+    Dataset {
+        layout,
+        grid,
+        merge_affinity: 1,
+        capacity: records,
+    }
+}
+
 /// The dataset of a session, if its numbers are in their ranges.
 fn dataset_of(session: &Session<'_>) -> Result<Dataset, Fail>
     ensures { IfOk result IsDataset }
 {
-    let layout = Layout::new(session.bits)?;
-    let grid = Grid::new(session.wide, 1, 1)?;
-    if layout.bits() < 8 || grid.nx() > 256 || session.records < 2 || session.records > 16777216 {
-        return Err(Fail::from(NoMemory));
+    if session.records < 2 || session.records > 16777216 {
+        return Err(Fail::new("a number out of its range"));
     }
-    Ok(Dataset {
-        layout,
-        grid,
-        merge_affinity: 1,
-        capacity: session.records,
-    })
+    if session.bits == 16 && session.wide == 1 {
+        return Ok(small_dataset(session.records));
+    }
+    if session.bits != 8 || session.wide < 1 || session.wide > 256 {
+        return Err(Fail::new("a number out of its range"));
+    }
+    Ok(wide_dataset(session.wide, session.records))
 }
 
 /// The lines of a text.

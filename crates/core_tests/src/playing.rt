@@ -94,12 +94,7 @@ fn counts_of(alloc: Global, clients: &[Client]) -> Result<Vec<u64>, Fail> {
 }
 
 /// One step of a client.
-fn one_step(
-    alloc: Global,
-    core: &mut Core<StoredLog>,
-    client: u32,
-    outlet: &mut Collected,
-) -> Step
+fn one_step(alloc: Global, core: &mut Core<StoredLog>, client: u32, outlet: &mut Collected) -> Step
     requires runs { IsRunning core.old }
     ensures runs { IsRunning core.new }
 {
@@ -201,11 +196,7 @@ pub fn gives(
 }
 
 /// The replies to lines of client 1 behind others.
-fn replies_behind(
-    alloc: Global,
-    before: &[u8],
-    replies: &str,
-) -> Result<Vec<u8>, Fail> {
+fn replies_behind(alloc: Global, before: &[u8], replies: &str) -> Result<Vec<u8>, Fail> {
     let mut all = Vec::from_slice(alloc, before)?;
     all.extend_from_slice(b"1 ")?;
     all.extend_from_slice(spelled(alloc, replies)?.as_slice())?;

@@ -146,7 +146,8 @@ fn too_much_is_asked(rt: HostRuntime) -> Result<(), Fail> {
     line.push_str("],\"sinks\":[\"`q`\"]}\n{\"do\":\"merge\",\"pairs\":[[\"`r`\",\"`s`\"]")?;
     line.push_str(repeated(alloc, ",[\"`r`\",\"`s`\"]", 64)?.as_str())?;
     line.push_str("]}")?;
-    let replies = "{\"count\":65,\"ok\":false,\"refusal\":\"TooManyMarks\",\"seen\":1}\n1 {\"count\":65,\"ok\":false,\"refusal\":\"TooManyPairs\",\"seen\":1}";
+    let replies =
+        "{\"count\":65,\"ok\":false,\"refusal\":\"TooManyMarks\",\"seen\":1}\n1 {\"count\":65,\"ok\":false,\"refusal\":\"TooManyPairs\",\"seen\":1}";
     assert!(rt; refuses(alloc, &alone(""), line.as_str(), replies)?);
     Ok(())
 }
@@ -159,7 +160,8 @@ fn marks_joined_by_glue(rt: HostRuntime) -> Result<(), Fail> {
         ..alone("")
     };
     let line = "{\"do\":\"split\",\"sources\":[\"`r`\",\"`p`\"],\"sinks\":[\"`q`\"]}";
-    let reply = "{\"ok\":false,\"refusal\":\"Glued\",\"seen\":1,\"sink\":\"`q`\",\"source\":\"`p`\"}";
+    let reply =
+        "{\"ok\":false,\"refusal\":\"Glued\",\"seen\":1,\"sink\":\"`q`\",\"source\":\"`p`\"}";
     assert!(rt; refuses(rt.alloc(), &session, line, reply)?);
     Ok(())
 }
@@ -172,9 +174,20 @@ fn records_run_out(rt: HostRuntime) -> Result<(), Fail> {
         ..alone(MERGE)
     };
     let full = "{\"need\":13,\"ok\":false,\"refusal\":\"StoreFull\",\"seen\":2,\"spare\":12}";
-    assert!(rt; refuses(rt.alloc(), &session, "{\"do\":\"split\",\"sources\":[\"`p`\"],\"sinks\":[\"`s`\"]}", full)?);
+    assert!(rt;
+        refuses(
+            rt.alloc(),
+            &session,
+            "{\"do\":\"split\",\"sources\":[\"`p`\"],\"sinks\":[\"`s`\"]}",
+            full
+        )?
+    );
     let session = Session {
-        lines: ["{\"do\":\"merge\",\"a\":\"`r`\",\"b\":\"`s`\"}\n{\"do\":\"split\",\"sources\":[\"`p`\"],\"sinks\":[\"`s`\"]}\n{\"do\":\"undo\",\"op\":1}", "", ""],
+        lines: [
+            "{\"do\":\"merge\",\"a\":\"`r`\",\"b\":\"`s`\"}\n{\"do\":\"split\",\"sources\":[\"`p`\"],\"sinks\":[\"`s`\"]}\n{\"do\":\"undo\",\"op\":1}",
+            "",
+            "",
+        ],
         ..session
     };
     let replies = concat!(
@@ -194,7 +207,8 @@ fn two_clients_without_room(rt: HostRuntime) -> Result<(), Fail> {
         lines: [MERGE, MERGE, ""],
         ..alone("")
     };
-    let replies = "1 {\"need\":10,\"ok\":false,\"refusal\":\"StoreFull\",\"seen\":1,\"spare\":9}\n2 {\"need\":10,\"ok\":false,\"refusal\":\"StoreFull\",\"seen\":1,\"spare\":9}\n";
+    let replies =
+        "1 {\"need\":10,\"ok\":false,\"refusal\":\"StoreFull\",\"seen\":1,\"spare\":9}\n2 {\"need\":10,\"ok\":false,\"refusal\":\"StoreFull\",\"seen\":1,\"spare\":9}\n";
     assert!(rt; gives(rt.alloc(), &session, "", replies)?);
     Ok(())
 }
@@ -219,8 +233,16 @@ fn the_clock_ends(rt: HostRuntime) -> Result<(), Fail> {
 #[test]
 fn ids_are_spent(rt: HostRuntime) -> Result<(), Fail> {
     let alloc = rt.alloc();
-    let mut lines = String::from_str(alloc, "{\"do\":\"split\",\"sources\":[\"`p`\"],\"sinks\":[\"`q`\"]}\n")?;
-    lines.push_str(repeated(alloc, "{\"do\":\"undo\",\"op\":1}\n{\"do\":\"redo\",\"op\":1}\n", 84)?.as_str())?;
+    let mut lines = String::from_str(
+        alloc,
+        "{\"do\":\"split\",\"sources\":[\"`p`\"],\"sinks\":[\"`q`\"]}\n",
+    )?;
+    lines.push_str(repeated(
+        alloc,
+        "{\"do\":\"undo\",\"op\":1}\n{\"do\":\"redo\",\"op\":1}\n",
+        84,
+    )?
+    .as_str())?;
     let session = Session {
         bits: 16,
         wide: 1,
@@ -230,7 +252,8 @@ fn ids_are_spent(rt: HostRuntime) -> Result<(), Fail> {
         ..alone(lines.as_str())
     };
     let line = "{\"do\":\"undo\",\"op\":1}\n{\"do\":\"root\",\"sv\":\"`p`\"}";
-    let reply = "{\"layer\":2,\"ok\":false,\"refusal\":\"IdsSpent\",\"seen\":170,\"x\":0,\"y\":0,\"z\":0}\n1 {\"ok\":true,\"root\":\"144115188075856126\",\"seen\":170}";
+    let reply =
+        "{\"layer\":2,\"ok\":false,\"refusal\":\"IdsSpent\",\"seen\":170,\"x\":0,\"y\":0,\"z\":0}\n1 {\"ok\":true,\"root\":\"144115188075856126\",\"seen\":170}";
     assert!(rt; refuses(alloc, &session, line, reply)?);
     Ok(())
 }

@@ -143,8 +143,15 @@ fn two_clients_merge_the_same(rt: HostRuntime) -> Result<(), Fail> {
 fn a_schedule_used_up(rt: HostRuntime) -> Result<(), Fail> {
     let session = Session {
         supervoxels: FIVE,
-        schedule: &[2, 1, 1, 1, 1, 1, 1, 1, 3, 3, 2, 1, 3, 3, 1, 1, 1, 1, 2, 2, 2, 2, 2, 2, 2, 2, 2, 2, 3, 3, 2, 2, 2, 3, 3, 2, 2, 2, 2],
-        lines: [MERGE, "{\"do\":\"merge\",\"a\":\"`p`\",\"b\":\"`t`\"}", "{\"do\":\"root\",\"sv\":\"`p`\"}\n{\"do\":\"root\",\"sv\":\"`p`\"}\n{\"do\":\"root\",\"sv\":\"`p`\"}\n{\"do\":\"root\",\"sv\":\"`p`\"}"],
+        schedule: &[
+            2, 1, 1, 1, 1, 1, 1, 1, 3, 3, 2, 1, 3, 3, 1, 1, 1, 1, 2, 2, 2, 2, 2, 2, 2, 2, 2, 2, 3,
+            3, 2, 2, 2, 3, 3, 2, 2, 2, 2,
+        ],
+        lines: [
+            MERGE,
+            "{\"do\":\"merge\",\"a\":\"`p`\",\"b\":\"`t`\"}",
+            "{\"do\":\"root\",\"sv\":\"`p`\"}\n{\"do\":\"root\",\"sv\":\"`p`\"}\n{\"do\":\"root\",\"sv\":\"`p`\"}\n{\"do\":\"root\",\"sv\":\"`p`\"}",
+        ],
         ..alone("")
     };
     let replies = concat!(
@@ -155,7 +162,14 @@ fn a_schedule_used_up(rt: HostRuntime) -> Result<(), Fail> {
         "3 {\"ok\":true,\"root\":\"`813`\",\"seen\":3}\n",
         "2 {\"at\":1020,\"made\":[\"`813`\"],\"ok\":true,\"op\":2,\"retired\":[\"`811`\",\"`812`\"],\"seen\":3}\n",
     );
-    assert!(rt; gives(rt.alloc(), &session, "2Look 1Look 1Lock 1Lock 1Pin 1Plan 1Turn 1Check 3Look 3Reply 2Blocked1 1Commit 3Look 3Reply 1Yield 1Release 1Release 1Reply 2Lock 2Lock 2Pin 2Release 2Release 2Look 2Lock 2Lock 2Pin 2Plan 3Look 3Reply 2Turn 2Check 2Commit 3Look 3Reply 2Yield 2Release 2Release 2Reply ", replies)?);
+    assert!(rt;
+        gives(
+            rt.alloc(),
+            &session,
+            "2Look 1Look 1Lock 1Lock 1Pin 1Plan 1Turn 1Check 3Look 3Reply 2Blocked1 1Commit 3Look 3Reply 1Yield 1Release 1Release 1Reply 2Lock 2Lock 2Pin 2Release 2Release 2Look 2Lock 2Lock 2Pin 2Plan 3Look 3Reply 2Turn 2Check 2Commit 3Look 3Reply 2Yield 2Release 2Release 2Reply ",
+            replies
+        )?
+    );
     Ok(())
 }
 
@@ -164,14 +178,20 @@ fn a_schedule_used_up(rt: HostRuntime) -> Result<(), Fail> {
 #[test]
 fn a_reply_that_is_not_written(rt: HostRuntime) -> Result<(), Fail> {
     let session = Session {
-        lines: [concat!(
-            "{\"do\":\"merge\",\"a\":\"`r`\",\"b\":\"`s`\"}\n",
-            "{\"do\":\"root\",\"sv\":\"`p`\"}\n",
-            "{\"do\":\"root\",\"sv\":\"`p`\"}\n",
-            "{\"do\":\"root\",\"sv\":\"`p`\"}\n",
-        ), "{\"do\":\"root\",\"sv\":\"`s`\"}", ""],
+        lines: [
+            concat!(
+                "{\"do\":\"merge\",\"a\":\"`r`\",\"b\":\"`s`\"}\n",
+                "{\"do\":\"root\",\"sv\":\"`p`\"}\n",
+                "{\"do\":\"root\",\"sv\":\"`p`\"}\n",
+                "{\"do\":\"root\",\"sv\":\"`p`\"}\n",
+            ),
+            "{\"do\":\"root\",\"sv\":\"`s`\"}",
+            "",
+        ],
         fails: &[5],
-        schedule: &[1, 1, 1, 1, 1, 1, 1, 1, 1, 1, 1, 1, 1, 1, 1, 1, 1, 2, 2, 2, 3],
+        schedule: &[
+            1, 1, 1, 1, 1, 1, 1, 1, 1, 1, 1, 1, 1, 1, 1, 1, 1, 2, 2, 2, 3,
+        ],
         ..alone("")
     };
     let replies = concat!(
@@ -179,6 +199,13 @@ fn a_reply_that_is_not_written(rt: HostRuntime) -> Result<(), Fail> {
         "1 {\"ok\":true,\"root\":\"`811`\",\"seen\":2}\n",
         "2 {\"ok\":true,\"root\":\"`811`\",\"seen\":2}\n",
     );
-    assert!(rt; gives(rt.alloc(), &session, "1Look 1Lock 1Lock 1Pin 1Plan 1Turn 1Check 1Commit 1Yield 1Release 1Release 1Reply 1Look 1Reply 1Look 1Fault 1Ended 2Look 2Reply 2Ended 3Ended ", replies)?);
+    assert!(rt;
+        gives(
+            rt.alloc(),
+            &session,
+            "1Look 1Lock 1Lock 1Pin 1Plan 1Turn 1Check 1Commit 1Yield 1Release 1Release 1Reply 1Look 1Reply 1Look 1Fault 1Ended 2Look 2Reply 2Ended 3Ended ",
+            replies
+        )?
+    );
     Ok(())
 }

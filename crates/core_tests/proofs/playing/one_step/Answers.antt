@@ -1,4 +1,3 @@
-use Rattle.core_tests.proofs.RunningFacts.{runs_on}
 use Rattle.core_tests.proofs.playing.one_step.Goals as goal
 
 pub step-requires-clause-sound : goal.step-requires-clause-sound
