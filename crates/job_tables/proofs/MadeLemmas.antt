@@ -18,7 +18,7 @@ use Rattle.call_lines.specs.declared.stops.Stop.{Stop}
 use Rattle.call_lines.specs.declared.stops.Stop.TheVariants as stops
 use Rattle.job_tables.specs.declared.tables.JobBase.{JobBase}
 use Rattle.job_tables.specs.declared.texts.Texts.{Texts}
-use Rattle.job_tables.specs.Inputs.{HasBase, HasFault, HasSchedule, IsFullSo, IsRead, NamesClients, NamesNone, clock_time, dataset_of}
+use Rattle.job_tables.specs.Inputs.{HasBase, HasFault, HasSchedule, IsFullSo, IsRead, NamesClients, NamesNone, clock_time, dataset_of, dataset_with}
 use Rattle.job_tables.specs.Stops.{AllRead, InputStop}
 use Rattle.job_tables.specs.Made.{AreTables, AreTexts, IsMade, IsSchedule, MakesStop, Named, NotNamed, TextsSpell, schedule_text}
 use Rattle.job_tables.proofs.Numbers.{named_in}
@@ -27,7 +27,7 @@ use Rattle.job_tables.proofs.Numbers.{named_in}
 pub is_made : (job : RehearseJob) (t : Texts) (b : Base) (r : JobBase) → r.dataset ≡ dataset_of job → Spells r.dataset t.tables.supervoxels.items t.tables.edges.items b
     → Named (length job.stems) (schedule_text t) r.schedule.items → Image r.dataset b (ingested r.dataset b (clock_time job.clock 0)) r.words.words
     → 8 * r.dataset.capacity ≤ length r.words.words + r.words.spare → ((e : BuildError) → IsFull r.dataset b e → ⊥) → IsMade job t r
-unfolding dataset_of
+unfolding dataset_of dataset_with
 is_made job t b r is spells named image room fits = record {
   base = b;
   spells = subst (λ x. Spells x t.tables.supervoxels.items t.tables.edges.items b) is spells;

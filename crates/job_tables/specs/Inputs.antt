@@ -2,6 +2,7 @@
 use Rattle.std.specs.Prelude.{◌≡◌, ◌≤◌, ◌<◌, ◌+◌, ◌*◌, ◌-◌, ◌^◌, min, ⊤, ℕ, List, [], length, Option, Some, None, Ok, Err}
 use Rattle.std.specs.List.{AllByRecursion}
 use Rattle.std.specs.FinMap.{get}
+use Rattle.chunk_geometry.specs.Cells.{Cells}
 use Rattle.op_model.specs.declared.base.Dataset.{Dataset}
 use Rattle.op_model.specs.declared.base.Base.{Base}
 use Rattle.op_model.specs.Ingest.{ingested}
@@ -17,14 +18,18 @@ use Rattle.table_ingest.specs.declared.errors.Table.{Table}
 use Rattle.table_ingest.specs.declared.errors.Cause.{Cause}
 use Rattle.job_tables.specs.declared.tables.JobBase.{JobBase}
 
+-- the dataset of these values of words
+unfoldable pub dataset_with : ℕ → Cells → ℕ → ℕ → Dataset
+dataset_with bits grid affinity records = record {
+  layout = record { version = 1; bits = bits };
+  grid = grid;
+  merge_affinity = affinity;
+  capacity = records;
+}
+
 -- the dataset of a job
 unfoldable pub dataset_of : RehearseJob → Dataset
-dataset_of job = record {
-  layout = record { version = 1; bits = job.bits };
-  grid = job.grid;
-  merge_affinity = job.merge_affinity;
-  capacity = job.records;
-}
+dataset_of job = dataset_with job.bits job.grid job.merge_affinity job.records
 
 -- the n-th time that a clock tells, counted from 0, cut down to 2^62 - 1
 abbrev pub clock_time : Ticks → ℕ → ℕ

@@ -1,19 +1,20 @@
 //! What the texts of a job make: a base's words, and the clients that a schedule names.
 
 ghost use Rattle.std.specs.Prelude.{◌≡◌, ◌≤◌, ◌*◌, ◌+◌, ◌^◌, length, IfOk, IfErr, OnOk, option_map};
-ghost use Rattle.pcg_words.specs.Job.{RehearseRanges};
+ghost use Rattle.pcg_words.specs.Job.{HasPlace, IsAffinity, IsRoom, RehearseRanges};
 ghost use Rattle.op_model.specs.Valid.{IsBase, IsDataset};
 ghost use Rattle.table_ingest.specs.Bases.{Faulty, Spells};
 ghost use Rattle.record_rows.specs.Readings.{Image};
 ghost use Rattle.op_model.specs.Ingest.{ingested};
 ghost use Rattle.hierarchy_build.specs.declared.errors.BuildError.{BuildError as TheBuildError};
 ghost use Rattle.hierarchy_build.specs.Built.{IsFull};
-ghost use Rattle.job_tables.specs.Inputs.{clock_time, dataset_of};
+ghost use Rattle.job_tables.specs.Inputs.{clock_time, dataset_of, dataset_with};
 ghost use Rattle.job_tables.specs.Made.{IsMade, IsShort, MakesStop, Named, NotNamed, StopsForRecords, StopsForTable, StopsForWord, records_stop, schedule_text, table_stop, word_stop};
 
 use crate::tables::JobBase;
 use crate::texts::{Tables, Texts};
 use call_lines::Stop;
+use chunk_geometry::Grid;
 use hierarchy_build::{BuildError, build_from};
 use node_ids::Layout;
 use op_model::{Base, Dataset};
@@ -23,6 +24,24 @@ use schedules::{ScheduleError, read_schedule};
 use std::alloc::Global;
 use table_ingest::{TableError, read_base};
 
+/// The dataset whose layout, grid, affinity of merges and capacity words give.
+#[tactic(auto, unfolding(crate::specs::Inputs::dataset_with))]
+pub fn dataset_with(bits: u64, grid: Grid, merge_affinity: u64, records: u64) -> Dataset
+    requires place { HasPlace bits grid }
+    requires affinity { IsAffinity merge_affinity }
+    requires records { IsRoom records }
+    ensures is { result ≡ dataset_with bits grid merge_affinity records }
+    ensures fine { IsDataset result }
+{
+    let layout = Layout::new(bits as u8).unwrap();
+    Dataset {
+        layout,
+        grid,
+        merge_affinity: merge_affinity as u32,
+        capacity: records as u32,
+    }
+}
+
 /// The dataset of a job.
 #[tactic(auto, unfolding(crate::specs::Inputs::dataset_of))]
 fn dataset_of(job: &RehearseJob) -> Dataset
@@ -30,13 +49,7 @@ fn dataset_of(job: &RehearseJob) -> Dataset
     ensures is { result ≡ dataset_of job.now }
     ensures fine { IsDataset result }
 {
-    let layout = Layout::new(job.bits as u8).unwrap();
-    Dataset {
-        layout,
-        grid: job.grid,
-        merge_affinity: job.merge_affinity as u32,
-        capacity: job.records as u32,
-    }
+    dataset_with(job.bits, job.grid, job.merge_affinity, job.records)
 }
 
 /// How many clients have these stems.
@@ -114,8 +127,18 @@ fn numbers_of(alloc: Global, schedule: &Option<Vec<u8>>, clients: u32) -> Result
     }
 }
 
-/// The words of a base's first entry, at a clock's first time. The base is let go.
-fn words_of(alloc: Global, dataset: &Dataset, base: Base, clock: &Ticks) -> Result<VecWords, Stop>
+/// The words of a base's first entry, at a clock's first time, with room for all records of the
+/// capacity. The base is let go.
+///
+/// # Errors
+///
+/// `IdsSpent` and `TooSmall` where the base's records can't be had, and `NoMemory`.
+pub fn words_of(
+    alloc: Global,
+    dataset: &Dataset,
+    base: Base,
+    clock: &Ticks,
+) -> Result<VecWords, Stop>
     requires dataset { IsDataset dataset.now }
     requires base { IsBase dataset.now base }
     ensures image { IfOk result

@@ -14,4 +14,5 @@ mod bases;
 mod tables;
 mod texts;
 
+pub use bases::{dataset_with, words_of};
 pub use tables::{JobBase, read_input};

@@ -2,7 +2,7 @@
 //!
 //! The promise: the tables that are made for a wish spell a base, whose supervoxels and edges are
 //! those that were made ([`laws::tables_are_read`]). [`made_base`] answers that base, or that it is
-//! out of memory.
+//! out of memory; [`base_and_streams`] answers the made request streams with it.
 //!
 //! - `reading`: the call;
 //! - `laws`: laws of what the made tables spell, each the contract of a function that does nothing.
@@ -11,4 +11,4 @@
 pub mod laws;
 mod reading;
 
-pub use reading::made_base;
+pub use reading::{BaseAndStreams, base_and_streams, made_base};

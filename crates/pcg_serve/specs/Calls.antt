@@ -15,6 +15,7 @@ use Rattle.made_files.specs.Files as made
 use Rattle.made_files.specs.Writing.{KeepsBut}
 use Rattle.rehearsal.specs.Exact.{IsDue, IsFine, Tells}
 use Rattle.rehearsal.specs.Outcomes.{IsDone, Outcome, answers_of}
+use Rattle.trials.specs.Trials.{HasFullTrial, IsTrialDone, TrialOutcome, TrialTells}
 use Rattle.pcg_serve.specs.Making.{IsMade, MakeOutcome}
 
 -- memory ran out over the words, and no file changed
@@ -29,12 +30,15 @@ JobOutcome (Some (job.Rehearse found)) old new out out' status =
     Outcome found old new out out' status ⊎ WordsLost old new out out' status
 JobOutcome (Some (job.Make found)) old new out out' status =
     ((new.reads ≡ old.reads) × MakeOutcome found old new out out' status) ⊎ WordsLost old new out out' status
+JobOutcome (Some (job.Trial found)) old new out out' status =
+    ((new ≡ old) × TrialOutcome found out out' status) ⊎ WordsLost old new out out' status
 
 -- what status 0 promises
 abbrev pub IsJobDone : Option Job → PlaceState → PlaceState → SinkState → SinkState → Type 0
 IsJobDone None old new out out' = ⊥
 IsJobDone (Some (job.Rehearse found)) old new out out' = IsDone found old new out out'
 IsJobDone (Some (job.Make found)) old new out out' = IsMade found old.files new.files out out'
+IsJobDone (Some (job.Trial found)) old new out out' = (new ≡ old) × IsTrialDone found out out'
 
 -- each count stood still
 abbrev pub IsFaultless : PlaceState → PlaceState → SinkState → SinkState → Type 0
@@ -50,21 +54,25 @@ JobTells None old new out out' status = (status ≡ statuses.BadWords) ⊎ (stat
 JobTells (Some (job.Rehearse found)) old new out out' status = Tells found old new out out' status
 JobTells (Some (job.Make found)) old new out out' status =
     (status ≡ statuses.Done) ⊎ (status ≡ statuses.NoMemory) ⊎ ((status ≡ statuses.WriteFault) × (Rose old.writes new.writes ⊎ Rose out.faults out'.faults))
+JobTells (Some (job.Trial found)) old new out out' status = TrialTells found out out' status
 
 -- the status that the input of the words' job asks for
 abbrev pub IsJobDue : Option Files → Option Job → Status → Type 0
 IsJobDue m None status = ⊥
 IsJobDue m (Some (job.Rehearse found)) status = IsDue m found status
 IsJobDue m (Some (job.Make found)) status = ⊥
+IsJobDue m (Some (job.Trial found)) status = (status ≡ statuses.Full) × HasFullTrial found
 
 -- the words spell a job, and its input is of its form
 abbrev pub IsJobFine : Option Files → Option Job → Type 0
 IsJobFine m None = ⊥
 IsJobFine m (Some (job.Rehearse found)) = IsFine m found
 IsJobFine m (Some (job.Make found)) = ⊤
+IsJobFine m (Some (job.Trial found)) = ¬ (HasFullTrial found)
 
 -- where the place tells its bytes, none but the files that the words' job writes have changed
 abbrev pub KeepsJobOthers : Option Job → Option Files → Option Files → Type 0
 KeepsJobOthers None old new = KeepsFiles old new
 KeepsJobOthers (Some (job.Rehearse found)) old new = KeepsOther old (answers_of found) new
 KeepsJobOthers (Some (job.Make found)) old new = KeepsBut (made.files_of found) old new
+KeepsJobOthers (Some (job.Trial found)) old new = KeepsFiles old new

@@ -14,9 +14,10 @@ use pcg_base::{Clock, Gate, Place, Sink};
 use pcg_words::{Job, WordsError, read_words};
 use rehearsal::{run_rehearse, stopped};
 use std::alloc::Global;
+use trials::run_trial;
 
 /// Does the job that the words of the command line spell, and answers the status. It writes what
-/// [`run_rehearse`] or [`run_make`] writes, or the fault line of wrong words; the status is 1 exactly
+/// [`run_rehearse`], [`run_make`] or [`run_trial`] writes, or the fault line of wrong words; the status is 1 exactly
 /// where the words spell no job. It asks neither the clock nor the gate yet.
 pub fn run<P: Place, C: Clock + Sync, G: Gate + Sync, K: Sink>(
     alloc: Global,
@@ -98,5 +99,6 @@ where
     match job {
         Job::Rehearse(job) => run_rehearse(alloc, job, place, out),
         Job::Make(job) => run_make(alloc, job, place, out),
+        Job::Trial(job) => run_trial(alloc, job, out),
     }
 }

@@ -5,6 +5,7 @@ use Rattle.chunk_geometry.specs.Cells.{Cells}
 use Rattle.pcg_base.specs.declared.clock.Ticks.{Ticks}
 use Rattle.pcg_words.specs.declared.job.MakeJob.{MakeJob}
 use Rattle.pcg_words.specs.declared.job.RehearseJob.{RehearseJob}
+use Rattle.pcg_words.specs.declared.job.TrialJob.{TrialJob}
 
 -- the files of a client: its requests and its answers
 abbrev pub request_file : List ℕ → List ℕ
@@ -93,3 +94,13 @@ make_files job = file_names job.supervoxels job.edges None job.stems
 pub record IsMake (job : MakeJob) : Type 0 where
   pub ranges : MakeRanges job
   pub names : IsTrue (all_differ (make_files job))
+
+-- the values of a trial are in their ranges; it has no files
+pub record IsTrial (job : TrialJob) : Type 0 where
+  pub place : HasPlace job.bits job.grid
+  pub merge_affinity : IsAffinity job.merge_affinity
+  pub records : IsRoom job.records
+  pub clock : IsClock job.clock
+  pub size : IsSize job.bits job.grid job.size
+  pub requests : job.requests ≤ 100000
+  pub clients : (1 ≤ job.clients) × (job.clients ≤ 64)

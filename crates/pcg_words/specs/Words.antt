@@ -11,9 +11,10 @@ use Rattle.pcg_base.specs.Cutting.{cut_at}
 use Rattle.pcg_base.specs.declared.clock.Ticks.{Ticks}
 use Rattle.pcg_words.specs.declared.job.MakeJob.{MakeJob}
 use Rattle.pcg_words.specs.declared.job.RehearseJob.{RehearseJob}
+use Rattle.pcg_words.specs.declared.job.TrialJob.{TrialJob}
 use Rattle.pcg_words.specs.declared.job.Job.{Job}
 use Rattle.pcg_words.specs.declared.job.Job.TheVariants as job
-use Rattle.pcg_words.specs.Job.{IsMake, IsRehearse, all_differ, make_files, most_supervoxels, rehearse_files}
+use Rattle.pcg_words.specs.Job.{IsMake, IsRehearse, IsTrial, all_differ, make_files, most_supervoxels, rehearse_files}
 
 infixl 10 ◌>>=◌
 abbrev pub ◌>>=◌ : {A B : Type 0} → Option A → (A → Option B) → Option B
@@ -119,6 +120,25 @@ make_in line = do
   stems ← stems_in line
   Some (record { bits = bits; grid = grid; supervoxels = supervoxels; edges = edges; from = from; size = size; requests = requests; stems = stems })
 
+unfoldable pub trial_options : List Known
+trial_options =
+    required (codes "bits") ∷ required (codes "grid") ∷ required (codes "merge-affinity") ∷ optional (codes "records") ∷ required (codes "clock")
+    ∷ required (codes "from") ∷ required (codes "size") ∷ required (codes "requests") ∷ required (codes "clients") ∷ []
+
+-- the trial that the values of a line spell
+unfoldable pub trial_in : Line → Option TrialJob
+trial_in line = do
+  bits ← bits_in line
+  grid ← grid_in line bits
+  merge_affinity ← affinity_in line
+  records ← records_in line
+  clock ← clock_in line
+  from ← number_in line (codes "from") 0 (2 ^ 64 - 1)
+  size ← size_in line bits grid
+  requests ← number_in line (codes "requests") 0 100000
+  clients ← number_in line (codes "clients") 1 64
+  Some (record { bits = bits; grid = grid; merge_affinity = merge_affinity; records = records; clock = clock; from = from; size = size; requests = requests; clients = clients })
+
 -- the job that the words after the mode spell
 unfoldable pub rehearse_of : List Text → Option Job
 rehearse_of words = option_map job.Rehearse (line_of rehearse_options true words >>= rehearse_in >>= only_if (λ job. all_differ (rehearse_files job)))
@@ -126,13 +146,19 @@ rehearse_of words = option_map job.Rehearse (line_of rehearse_options true words
 unfoldable pub make_of : List Text → Option Job
 make_of words = option_map job.Make (line_of make_options true words >>= make_in >>= only_if (λ job. all_differ (make_files job)))
 
+-- a trial has no stems
+unfoldable pub trial_of : List Text → Option Job
+trial_of words = option_map job.Trial (line_of trial_options false words >>= trial_in)
+
 -- ---- words
 
 -- the job that texts spell, of which the first is the mode
 unfoldable pub mode_of : List Text → Option Job
 mode_of [] = None
 mode_of (mode ∷ words) =
-    if bytes_eq mode (codes "rehearse") then rehearse_of words else (if bytes_eq mode (codes "make") then make_of words else None)
+    if bytes_eq mode (codes "rehearse") then rehearse_of words
+    else (if bytes_eq mode (codes "make") then make_of words
+    else (if bytes_eq mode (codes "trial") then trial_of words else None))
 
 -- the job that the words spell; all of them are UTF-8
 unfoldable pub job_of : List (Vec ℕ Global) → Option Job
@@ -142,3 +168,4 @@ job_of words = only_if (list_all is_utf8) (map (λ w. w.items) words) >>= mode_o
 abbrev pub MeetsMode : Job → Type 0
 MeetsMode (job.Rehearse found) = IsRehearse found
 MeetsMode (job.Make found) = IsMake found
+MeetsMode (job.Trial found) = IsTrial found

@@ -78,6 +78,29 @@ pub struct MakeJob {
     pub stems: Names,
 }
 
+/// Input that is made from a number and answered at once, in memory.
+#[derive(Drop)]
+pub struct TrialJob {
+    /// How many bits of an id each coordinate takes, from 1 to 16.
+    pub bits: u64,
+    /// How many base chunks there are along each axis, at most 2 to the number of bits each.
+    pub grid: Grid,
+    /// The affinity of an edge that a merge adds, from 1 to 4294967295.
+    pub merge_affinity: u64,
+    /// How many records the store holds, from 2 to 16777216.
+    pub records: u64,
+    /// What the clock answers, in milliseconds.
+    pub clock: Ticks,
+    /// The number that all is made from.
+    pub from: u64,
+    /// How many supervoxels there are, from 1 to 1000000.
+    pub size: u64,
+    /// How many lines each client's stream has, at most 100000.
+    pub requests: u64,
+    /// How many clients there are, from 1 to 64.
+    pub clients: u64,
+}
+
 /// A job of the program, by its mode.
 #[derive(Drop)]
 pub enum Job {
@@ -85,4 +108,6 @@ pub enum Job {
     Rehearse(RehearseJob),
     /// Make tables and request streams.
     Make(MakeJob),
+    /// Make input and answer it, in memory.
+    Trial(TrialJob),
 }

@@ -14,12 +14,14 @@ mod job;
 mod lines;
 mod make;
 mod rehearse;
+mod trial;
 mod values;
 mod words;
 
 pub use files::{answer_file, request_file};
-pub use job::{Job, MakeJob, Name, Names, RehearseJob};
+pub use job::{Job, MakeJob, Name, Names, RehearseJob, TrialJob};
 pub use make::make_options;
 pub use option_words::WordsError;
 pub use rehearse::rehearse_options;
+pub use trial::trial_options;
 pub use words::read_words;

@@ -12,6 +12,7 @@ ghost use Rattle.pcg_words.specs.Words.{MeetsMode, job_of, mode_of};
 use crate::job::Job;
 use crate::make::make_of;
 use crate::rehearse::rehearse_of;
+use crate::trial::trial_of;
 use option_words::WordsError;
 use std::alloc::Global;
 
@@ -54,6 +55,7 @@ fn mode_of(alloc: Global, words: &[&str]) -> Result<Job, WordsError>
     match *mode {
         "rehearse" => rehearse_of(alloc, rest),
         "make" => make_of(alloc, rest),
+        "trial" => trial_of(alloc, rest),
         _ => Err(WordsError::BadWords),
     }
 }

@@ -17,7 +17,7 @@ use Rattle.job_files.specs.Kept.{AreKeptIn, AreKeptOut, KeepsOther}
 use Rattle.job_files.proofs.Counting.{later_then}
 use Rattle.call_lines.specs.declared.stops.Stop.TheVariants as stops
 use Rattle.job_tables.specs.declared.tables.JobBase.{JobBase}
-use Rattle.job_tables.specs.Inputs.{IsRead, clock_time, dataset_of}
+use Rattle.job_tables.specs.Inputs.{IsRead, clock_time, dataset_of, dataset_with}
 use Rattle.session_results.specs.declared.playing.SessionsDone.{SessionsDone}
 use Rattle.rehearsal.specs.Outcomes.{SessionsStop}
 use Rattle.rehearsal.specs.Played.{ArePlayed, AreUnplayed, IsBefore}
@@ -93,7 +93,7 @@ if_some_then (Some x) f h = f x h
 
 -- what was read fits the job
 pub room_of : (job : RehearseJob) (input : JobBase) (files : Option Files) → IsRead files job input → 8 * input.dataset.capacity ≤ length input.words.words + input.words.spare
-unfolding dataset_of
+unfolding dataset_of dataset_with
 room_of job input files r = subst (λ (d : Dataset). 8 * d.capacity ≤ length input.words.words + input.words.spare) (sym r.dataset) r.room
 
 pub numbers_within : (job : RehearseJob) (input : JobBase) (files : Option Files) (requests : List (List ℕ)) → requests ≡ map request_file job.stems → IsRead files job input

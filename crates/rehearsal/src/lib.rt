@@ -13,5 +13,5 @@ mod clients;
 mod printing;
 mod rehearsal;
 
-pub use printing::stopped;
+pub use printing::{stopped, summary_of};
 pub use rehearsal::run_rehearse;

@@ -47,8 +47,8 @@ fn at_fault(ended: Status) -> Status
     }
 }
 
-/// What a call came to that came past its sessions.
-fn summary_of(
+/// The summary of a call that came past its sessions, by the counts of its log and of its replies.
+pub fn summary_of(
     clients: u32,
     counts: LogCounts,
     faults: Vec<ClientFault>,

@@ -12,3 +12,4 @@ mod reading;
 mod taking;
 
 pub use reading::{SourceRead, StreamLines, read_lines, read_source};
+pub use taking::NoAnswers;

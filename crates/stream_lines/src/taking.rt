@@ -12,7 +12,7 @@ use std::alloc::Global;
 
 /// Where no answer goes. It takes all bytes and keeps none.
 #[derive(Drop)]
-pub(crate) struct NoAnswers;
+pub struct NoAnswers;
 
 impl Sink for NoAnswers {
     ghost state = { λ _. record { held = None; flushed = None; faults = 0 } };

@@ -1,0 +1,4 @@
+mod WholeTexts
+mod Sessions
+mod Beginnings
+mod Tried
