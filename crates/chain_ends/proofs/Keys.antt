@@ -33,7 +33,7 @@ use Rattle.record_rows.proofs.OnceLemmas.{all_has_self, ascending_differ}
 use Rattle.record_rows.proofs.Picks.{picked_each, picked_entry, picked_map, picked_none}
 use Rattle.edge_rows.proofs.EdgeLists.{known, known_put}
 use Rattle.new_ids.proofs.PairFacts.{Knows, changed_more, changed_self}
-use Rattle.new_ids.proofs.PairOrder.{Before, all_ascend, edges_ascend}
+use Rattle.edge_rows.proofs.PairOrder.{Before, all_ascend, edges_ascend}
 
 -- what holds of all that is picked holds of what is picked of one record
 pub picked_all : {K : Type 0} (P : K → Type 0) (pick : Row → Option K) (rows : List Row) (p : ℕ) (row : Row) (k : K) → AllByRecursion P (filter_map pick rows) → slice_get rows p ≡ Some row → pick row ≡ Some k → P k

@@ -1,5 +1,6 @@
 -- What the records of a log tell of its edges at a prefix: the state of each pair, and the edges themselves.
 use Rattle.std.proofs.Common.{◌≡◌, ℕ, suc, ◌-◌, ◌<◌, ◌≤◌, ◌^◌, Bool, true, false, cond, not, ◌&&◌, ◌||◌, eqb, ltb, List, [], ◌∷◌, ◌++◌, length, map, Option, Some, None, refl, sym, ◌∙◌, ap, subst, inl, inr, ◌⊎◌, arith, append-nil, lt-ltb}
+use Rattle.std.specs.Prelude.{IsPermutation, IsSortedBy}
 use Rattle.std.specs.List.{AllByRecursion, slice_get, filter, filter_map, cons_option, last_or}
 use Rattle.std.proofs.lemmas.Bool.{cases_lt, le-ltb, or_parts}
 use Rattle.std.proofs.lemmas.List.{map-append}
@@ -27,8 +28,10 @@ use Rattle.record_rows.specs.LogRows.{marks, chunks, new_nodes, new_links, unkno
 use Rattle.record_rows.specs.Walks.{is_end, edges_at, is_active}
 use Rattle.record_rows.proofs.RowFacts.{all_at, all_base}
 use Rattle.record_rows.proofs.Picks.{picked_map, picked_none, picked_base}
-use Rattle.record_rows.proofs.DifferLemmas.{all_append, all_more, all_each, all_both, all_map, all_filter}
-use Rattle.edge_rows.proofs.EdgeLists.{known, active_put, known_put, unknown_inactive, own_state, puts_append, puts_same, given, given_sorted, given_own, made_edge, given_changed, filter_puts}
+use Rattle.record_rows.proofs.DifferLemmas.{Differ, all_append, all_more, all_each, all_both, all_map, all_filter, differ_append, differ_map, differ_filter, differ_more}
+use Rattle.edge_rows.proofs.DistinctPairs.{OtherPair, sorted_differ, sorted_puts, known_other, puts_known, known_given}
+use Rattle.edge_rows.proofs.PairOrder.{all_ascend}
+use Rattle.edge_rows.proofs.EdgeLists.{not_before, known, active_put, known_put, unknown_inactive, own_state, puts_append, puts_same, given, given_sorted, given_own, made_edge, given_changed, filter_puts}
 
 -- the state that the record gives the pair, if it is a change of it by an entry below the prefix
 unfoldable pub state_below : Pair → ℕ → Row → Option Bool
@@ -47,6 +50,10 @@ and_none false = refl
 and_all : (t : Bool) → (t && true) ≡ t
 and_all true = refl
 and_all false = refl
+
+flip : (t : Bool) → not t ≡ true → t ≡ false
+flip true h = sym h
+flip false h = refl
 
 -- each entry has as its number how many stand before it
 abbrev Numbered : List Entry → Type 0
@@ -243,7 +250,7 @@ module _ (d : Dataset) (b : Base) where
           rw (above h, log_older e log prefix (omega arith)) (append-nil (filter (is_end v) (map (given (is_active es)) (made_edges (log_at d b log prefix)))))
 
   -- the edges of a supervoxel that the records tell of, with their states, are its edges at the prefix
-  pub edges_told : (log : List Entry) (v prefix : ℕ) → 1 ≤ prefix → Legal d b log
+  edges_told : (log : List Entry) (v prefix : ℕ) → 1 ≤ prefix → Legal d b log
       → put_edges (filter_map (edge_below (edges d b (log_at d b log prefix)) v prefix) (rows_of d b log)) [] ≡ edges_at (edges d b (log_at d b log prefix)) v
   unfolding edges_at is_end
   edges_told log v prefix l legal =
@@ -252,6 +259,48 @@ module _ (d : Dataset) (b : Base) where
       ap (λ xs. put_edges xs []) (edges_picked es v prefix log (numbered log legal))
       ∙ (sym (filter_puts (is_end v) (λ e f q. ap (λ p. eqb p.a v || eqb p.b v) q) (map (given (is_active es)) (made_edges old)) [] tt)
       ∙ ap (filter (is_end v)) (sym (made_all (is_active es) old (legal_at log prefix l legal)) ∙ given_own es (edges_sorted old)))
+
+  -- the edges that a log made known are among its edges
+  made_known : (log : List Entry) → Legal d b log → AllByRecursion (λ x. known (edges d b log) x.pair ≡ true) (made_edges log)
+  unfolding given
+  made_known log legal = unmap (made_edges log) (puts_known (map (given none) (made_edges log)) [])
+    where
+      none : Pair → Bool
+      none p = false
+
+      unmap : (xs : List Edge) → AllByRecursion (λ x. known (put_edges (map (given none) (made_edges log)) []) x.pair ≡ true) (map (given none) xs) → AllByRecursion (λ x. known (edges d b log) x.pair ≡ true) xs
+      unmap [] h = tt
+      unmap (x ∷ xs) h = (sym (known_given none x.pair (edges d b log)) ∙ (ap (λ fs. known fs x.pair) (made_all none log legal) ∙ h.0), unmap xs h.1)
+
+  -- no two of them have one pair
+  made_differ : (log : List Entry) → Legal d b log → Differ OtherPair (made_edges log)
+  unfolding made_edges new_edges unknown known made_edge
+  made_differ [] legal = tt
+  made_differ (e ∷ []) legal = sorted_differ (edges d b []) (edges_sorted [])
+  made_differ (e ∷ f ∷ log) legal =
+      let old : List Edge = edges d b (f ∷ log) in
+      let test : Changed → Bool = λ c. not (known old c.pair) in
+      let news : List Changed = filter test e.changed in
+      let apart : Differ (λ (c x : Changed). pair_before c.pair x.pair ≡ true) news = differ_filter test (λ (c x : Changed). pair_before c.pair x.pair ≡ true) e.changed (all_ascend d b (e ∷ f ∷ log) legal).0 in
+      differ_append OtherPair (made_edges (f ∷ log)) (new_edges d b (f ∷ log) e) (made_differ (f ∷ log) legal.1)
+      (differ_map (made_edge d.merge_affinity) OtherPair news
+      (differ_more (λ c. Unit {0}) (λ (c x : Changed). pair_before c.pair x.pair ≡ true) (λ (c x : Changed). same_pair c.pair x.pair ≡ false) news (λ c x t u h. (not_before c.pair x.pair h).1) (all_each (λ c. Unit {0}) news (λ c. tt)) apart))
+      (all_more (λ x. known old x.pair ≡ true) (λ x. AllByRecursion (OtherPair x) (new_edges d b (f ∷ log) e)) (made_edges (f ∷ log))
+      (λ x k. all_map (made_edge d.merge_affinity) (OtherPair x) news
+      (all_more (λ c. Unit {0} × (test c ≡ true)) (λ c. same_pair x.pair c.pair ≡ false) news (λ c t. known_other old x.pair c.pair k (flip _ t.1)) (all_filter test (λ c. Unit {0}) e.changed (all_each (λ c. Unit {0}) e.changed (λ c. tt)))))
+      (made_known (f ∷ log) legal.1))
+
+  -- the edges of a supervoxel that the records tell of, sorted, are its edges at the prefix
+  pub sorted_told : (log : List Entry) (v prefix : ℕ) → 1 ≤ prefix → Legal d b log → (sorted : List Edge) → IsPermutation (filter_map (edge_below (edges d b (log_at d b log prefix)) v prefix) (rows_of d b log)) sorted
+      → IsSortedBy (λ (e : Edge) (f : Edge). pair_before e.pair f.pair) sorted → sorted ≡ edges_at (edges d b (log_at d b log prefix)) v
+  unfolding given
+  sorted_told log v prefix l legal sorted p s =
+      let old : List Entry = log_at d b log prefix in
+      let states : Pair → Bool = is_active (edges d b old) in
+      let made : List Edge = made_edges old in
+      let differ : Differ OtherPair (filter (is_end v) (map (given states) made)) = differ_filter (is_end v) OtherPair (map (given states) made) (differ_map (given states) OtherPair made (made_differ old (legal_at log prefix l legal))) in
+      sorted_puts (filter_map (edge_below (edges d b old) v prefix) (rows_of d b log)) sorted (subst (Differ OtherPair) (sym (edges_picked (edges d b old) v prefix log (numbered log legal))) differ) p s
+      ∙ edges_told log v prefix l legal
 
   -- what holds of each edge that has a record: the state before all changes, its weight, and that it joins supervoxels
   abbrev pub EdgeFacts : Edge → Type 0
@@ -299,10 +348,6 @@ module _ (d : Dataset) (b : Base) where
       all_map _ EdgeFacts (filter test e.changed)
       (all_more (λ c. IsKnown b c.pair × (test c ≡ true)) _ (filter test e.changed) (λ c h. (unknown_inactive c.pair (edges d b []) (unknown_first (f ∷ log) c.pair (flip _ h.1)), dataset.merge_affinity, h.0))
       (all_filter test (λ c. IsKnown b c.pair) e.changed (legal_known d b base (e ∷ f ∷ log) legal).0.0))
-    where
-      flip : (t : Bool) → not t ≡ true → t ≡ false
-      flip true h = sym h
-      flip false h = refl
 
   facts_all : (log : List Entry) → IsDataset d → IsBase d b → Legal d b log → AllByRecursion OfEdges (rows_of d b log)
   unfolding rows_of

@@ -4,7 +4,8 @@ pub mod EdgeMeaning
 pub mod FieldFacts
 pub mod Walks
 pub mod StateWalks
-pub mod Placing
+pub mod PairOrder
+pub mod DistinctPairs
 pub mod Listed
 pub mod Narrow
 pub mod EdgeOrder

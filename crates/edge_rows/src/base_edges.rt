@@ -12,7 +12,7 @@ ghost use Rattle.record_rows.specs.Readings.{Image, Holds, HoldsEdge};
 ghost use Rattle.edge_rows.specs.BaseEdges.{IsLower, base_before, base_of, base_word, of_base};
 
 use crate::fields::pair_of;
-use crate::inserting::{is_before, is_same};
+use crate::ordering::{is_before, is_same};
 use op_model::Pair;
 use pcg_base::Words;
 use row_words::{Spot, fixed};

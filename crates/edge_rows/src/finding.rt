@@ -14,7 +14,7 @@ ghost use Rattle.record_rows.specs.Sorted.{FoundAmong, supervoxel_count};
 use crate::base_edges::base_edge;
 use crate::chains::{first_change, first_edge, next_change, next_edge};
 use crate::fields::pair_of;
-use crate::inserting::is_same;
+use crate::ordering::is_same;
 use node_ids::NodeId;
 use op_model::Pair;
 use pcg_base::Words;

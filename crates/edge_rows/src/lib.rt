@@ -13,7 +13,7 @@
 //! - `base_edges`: the record of a base's edge, by halving
 //! - `finding`: the record of a pair, and the ends of chains
 //! - `states`: the state of an edge at a prefix
-//! - `inserting`: edges put into an ascending list
+//! - `ordering`: the order of pairs, and edges put into it
 //! - `listing`: the edges of a supervoxel at a prefix
 #![tactic(auto)]
 
@@ -21,11 +21,11 @@ mod base_edges;
 mod chains;
 mod fields;
 mod finding;
-mod inserting;
 mod listing;
+mod ordering;
 mod states;
 
 pub use finding::{find_edge, last_change, last_edge};
-pub use inserting::{is_before, is_same};
 pub use listing::edges_of;
+pub use ordering::{is_before, is_same};
 pub use states::state_at;

@@ -1,13 +1,11 @@
 //! The edges of a supervoxel at a prefix.
 
-ghost use Rattle.std.specs.Prelude.{◌≡◌, ℕ, ◌≤◌, nat_lt, if◌then◌else◌, List, map, OnOk, IfOk};
+ghost use Rattle.std.specs.Prelude.{◌≡◌, ℕ, ◌≤◌, nat_lt, if◌then◌else◌, List, [], ◌∷◌, ◌++◌, OnOk, IfOk};
 ghost use Rattle.op_model.specs.declared.base.Dataset.{Dataset};
 ghost use Rattle.op_model.specs.declared.base.Base.{Base};
 ghost use Rattle.op_model.specs.declared.base.Edge.{Edge};
 ghost use Rattle.op_model.specs.declared.entry.Entry.{Entry};
-ghost use Rattle.op_model.specs.Edges.{put_edge};
 ghost use Rattle.op_model.specs.Labels.{edges};
-ghost use Rattle.op_model.specs.Cuts.{PairsAscend};
 ghost use Rattle.op_model.specs.Transcript.{log_at};
 ghost use Rattle.record_rows.specs.Readings.{Image, HoldsSupervoxel, HoldsEdge};
 ghost use Rattle.record_rows.specs.Walks.{edges_at};
@@ -15,7 +13,7 @@ ghost use Rattle.edge_rows.specs.AtPrefix.{with_state};
 
 use crate::chains::{first_edge, next_edge};
 use crate::fields::{made_by, pair_of, weight_of};
-use crate::inserting::put_edge;
+use crate::ordering::ascending;
 use crate::states::state_at;
 use node_ids::NodeId;
 use op_model::{Edge, EdgeList};
@@ -39,8 +37,8 @@ fn edge_at<W: Words>(w: &mut W, edge: Spot, prefix: u32) -> Edge
     }
 }
 
-/// Puts an edge with its state after the first `prefix` entries into an ascending list of edges,
-/// if one of those entries made it.
+/// Puts an edge with its state after the first `prefix` entries behind others, if one of those
+/// entries made it.
 fn keep_edge<W: Words>(
     w: &mut W,
     list: &mut Vec<Edge>,
@@ -48,19 +46,18 @@ fn keep_edge<W: Words>(
     prefix: u32,
 ) -> Result<(), NoMemory>
     requires edge { (d : Dataset) × (b : Base) × (log : List Entry) × (made : ℕ) × (e : Edge) × Image d b log (W.words w.old) × HoldsEdge d b log edge made e }
-    requires ascending { PairsAscend (map (λ e. e.pair) list.old.items) }
     ensures same { w.new ≡ w.old }
-    ensures kept { (d : Dataset) (b : Base) (log : List Entry) (made : ℕ) (e : Edge) → Image d b log (W.words w.old) → HoldsEdge d b log edge made e → OnOk result (list.new.items ≡ (if nat_lt made prefix then put_edge (with_state (edges d b (log_at d b log prefix)) e) list.old.items else list.old.items)) }
+    ensures kept { (d : Dataset) (b : Base) (log : List Entry) (made : ℕ) (e : Edge) → Image d b log (W.words w.old) → HoldsEdge d b log edge made e → OnOk result (list.new.items ≡ (if nat_lt made prefix then list.old.items ++ with_state (edges d b (log_at d b log prefix)) e ∷ [] else list.old.items)) }
 {
     if made_by(w, edge) < prefix {
         let kept = edge_at(w, edge, prefix);
-        return put_edge(list, kept);
+        list.push(kept).map_err(|_| NoMemory)?;
     }
     Ok(())
 }
 
 /// The edges of a supervoxel after the first `prefix` entries, at least one, with their states,
-/// ascending by pair.
+/// ascending by pair. Behind the walk along their records it takes time n log n in their number.
 ///
 /// # Errors
 ///
@@ -83,5 +80,5 @@ pub fn edges_of<W: Words>(
         keep_edge(w, &mut list, edge, prefix)?;
         at = next_edge(w, edge, id);
     }
-    Ok(EdgeList { list })
+    Ok(ascending(list))
 }

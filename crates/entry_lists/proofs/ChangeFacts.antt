@@ -37,7 +37,7 @@ use Rattle.grown_rows.proofs.EndLemmas.{changes_stay, edges_without_end}
 use Rattle.entry_rows.specs.declared.changes.EntryChange.{EntryChange}
 use Rattle.entry_rows.specs.Changes.{AreChanges, IsAtChange}
 use Rattle.new_ids.proofs.PairFacts.{unchanged}
-use Rattle.new_ids.proofs.PairOrder.{Before, all_ascend}
+use Rattle.edge_rows.proofs.PairOrder.{Before, all_ascend}
 use Rattle.chain_ends.proofs.EndFacts.{headed_log}
 use Rattle.chain_ends.proofs.Keys.{edge_once}
 use Rattle.entry_lists.specs.Changing.{AreChanging, IsChange}

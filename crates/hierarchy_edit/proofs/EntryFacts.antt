@@ -34,7 +34,7 @@ use Rattle.entry_layers.specs.declared.gathering.SpentChunk.{SpentChunk}
 use Rattle.entry_layers.specs.Gathered.{AreEntryLayers, is_spent, layer_places, told_spent}
 use Rattle.entry_layers.specs.Layering.{IsEntryPart}
 use Rattle.hierarchy_edit.specs.declared.standing.LogState.{LogState}
-use Rattle.new_ids.proofs.PairOrder.{changed_ascend}
+use Rattle.edge_rows.proofs.PairOrder.{changed_ascend}
 use Rattle.unite_laws.specs.Uniting.{HaveState}
 use Rattle.unite_laws.proofs.StateLemmas.{edit_state}
 use Rattle.hierarchy_edit.specs.Listed.{IsListed, IsLogState, is_uniting, refuse_chunk, refuse_ids}

@@ -1,4 +1,3 @@
 pub mod NodeFacts
 pub mod PairFacts
 pub mod NodeAscent
-pub mod PairOrder

@@ -1,6 +1,6 @@
-use Rattle.std.proofs.Common.{◌≡◌, ◌∙◌, ◌+◌, ◌*◌, ◌<◌, ◌≤◌, true, sym, ap, subst, map, length}
+use Rattle.std.proofs.Common.{◌≡◌, ◌∙◌, ◌+◌, ◌*◌, ◌<◌, ◌≤◌, true, sym, ap, subst, length}
+use Rattle.std.specs.Prelude.{IsPermutation}
 use Rattle.op_model.specs.Labels.{edges}
-use Rattle.op_model.specs.Cuts.{PairsAscend}
 use Rattle.op_model.specs.Transcript.{log_at}
 use Rattle.record_rows.specs.Rows.{SupervoxelRow, EdgeRow}
 use Rattle.record_rows.specs.Chains.{edge_at}
@@ -9,9 +9,9 @@ use Rattle.record_rows.specs.Readings.{Image, next_place}
 use Rattle.record_rows.proofs.WalkLemmas.{steps_left, next_behind}
 use Rattle.record_rows.proofs.ImageFacts.{parent_image, header}
 use Rattle.edge_rows.proofs.ChainFacts.{reach, supervoxel_is}
-use Rattle.edge_rows.proofs.EdgeMeaning.{edges_told}
+use Rattle.edge_rows.proofs.EdgeMeaning.{sorted_told}
 use Rattle.edge_rows.proofs.Walks.{fall, headed_edge, edge_here}
-use Rattle.edge_rows.proofs.Listed.{Listed, kept_ascends, listed_first, listed_next, listed_end}
+use Rattle.edge_rows.proofs.Listed.{Listed, listed_first, listed_next, listed_end}
 use Rattle.edge_rows.proofs.listing.edges_of.Goals as goal
 
 pub fixed-requires-clause-within : goal.fixed-requires-clause-within
@@ -25,22 +25,21 @@ first_edge-at-requires g c =
 pub loop-at-init : goal.loop-at-init
 loop-at-init g c = record {
   same = c.first_edge-at.ensures.same ∙ c.fixed.ensures.same;
-  ascending = subst (λ es. PairsAscend (map (λ e. e.pair) es)) (sym c.new-list.ensures.items) tt;
   left = λ d b log v i h.
       let j = subst (λ w. Image d b log (g.W.Words.words w)) (sym c.fixed.ensures.same) i in
       let rows = rows_of d b log in
       let es = edges d b (log_at d b log c.args.prefix) in (
         c.fixed.ensures.is ∙ supervoxel_is d b log _ i c.args.sv v h,
         subst (λ fs. Listed rows es v c.args.prefix fs c.first_edge-at.result) (sym c.new-list.ensures.items)
-            (listed_first rows es v c.args.prefix _ c.first_edge-at.result (header d b log _ (parent_image d b log _ i)) (headed_edge v d _ _) (c.first_edge-at.ensures.is d b log v j h) (edges_told d b log v c.args.prefix c.requires.prefix i.legal)),
+            (listed_first rows es v c.args.prefix _ c.first_edge-at.result (header d b log _ (parent_image d b log _ i)) (headed_edge v d _ _) (c.first_edge-at.ensures.is d b log v j h)),
       );
 }
 
-pub keep_edge-requires-clause-edge : goal.keep_edge-requires-clause-edge
-keep_edge-requires-clause-edge g c =
+pub keep_edge-requires : goal.keep_edge-requires
+keep_edge-requires g c =
     let (d, b, log, v, i, h) = c.requires.supervoxel in
     let (made, e, k, t) = edge_here d b log v c.loop-at.at c.in-Some.edge c.in-Some.is (c.loop-at.invariant.left d b log v i h).1.0 in
-    (d, b, log, made, e, subst (λ w. Image d b log (g.W.Words.words w)) (sym c.loop-at.invariant.same) i, k)
+    record { edge = (d, b, log, made, e, subst (λ w. Image d b log (g.W.Words.words w)) (sym c.loop-at.invariant.same) i, k) }
 
 pub next_edge-at-requires : goal.next_edge-at-requires
 next_edge-at-requires g c =
@@ -63,11 +62,6 @@ loop-at-smaller g c =
 pub loop-at-preserved : goal.loop-at-preserved
 loop-at-preserved g c = record {
   same = c.next_edge-at.ensures.same ∙ c.keep_edge.ensures.same ∙ c.loop-at.invariant.same;
-  ascending =
-      let (d, b, log, v, i, h) = c.requires.supervoxel in
-      let (made, e, k, t) = edge_here d b log v c.loop-at.at c.in-Some.edge c.in-Some.is (c.loop-at.invariant.left d b log v i h).1.0 in
-      let before = subst (λ w. Image d b log (g.W.Words.words w)) (sym c.loop-at.invariant.same) i in
-      kept_ascends (edges d b (log_at d b log c.args.prefix)) c.args.prefix made e c.loop-at.list.items c.keep_edge.new.list.items (c.in_ok-keep_edge.ensures.kept d b log made e before k) c.loop-at.invariant.ascending;
   left = λ d b log v i h.
       let (q, listed) = c.loop-at.invariant.left d b log v i h in
       let (made, e, k, t) = edge_here d b log v c.loop-at.at c.in-Some.edge c.in-Some.is listed.0 in
@@ -81,4 +75,7 @@ loop-at-preserved g c = record {
 }
 
 pub returns-clause-edges : goal.returns-clause-edges
-returns-clause-edges g c = λ d b log v i h. listed_end (rows_of d b log) (edges d b (log_at d b log c.args.prefix)) v c.args.prefix c.loop-at.list.items c.loop-at.at c.in_default.not-Some (c.loop-at.invariant.left d b log v i h).1
+returns-clause-edges g c = λ d b log v i h.
+    let es = edges d b (log_at d b log c.args.prefix) in
+    let all = listed_end (rows_of d b log) es v c.args.prefix c.loop-at.list.items c.loop-at.at c.in_default.not-Some (c.loop-at.invariant.left d b log v i h).1 in
+    sorted_told d b log v c.args.prefix c.requires.prefix i.legal c.ascending.result (subst (λ xs. IsPermutation xs c.ascending.result) all c.ascending.ensures.same) c.ascending.ensures.sorted

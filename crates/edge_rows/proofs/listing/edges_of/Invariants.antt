@@ -1,9 +1,8 @@
-use Rattle.std.proofs.Common.{◌≡◌, ℕ, List, map, length}
+use Rattle.std.proofs.Common.{◌≡◌, ℕ, List, length}
 use Rattle.op_model.specs.declared.base.Dataset.{Dataset}
 use Rattle.op_model.specs.declared.base.Base.{Base}
 use Rattle.op_model.specs.declared.entry.Entry.{Entry}
 use Rattle.op_model.specs.Labels.{edges}
-use Rattle.op_model.specs.Cuts.{PairsAscend}
 use Rattle.op_model.specs.Transcript.{log_at}
 use Rattle.record_rows.specs.LogRows.{rows_of}
 use Rattle.record_rows.specs.Readings.{Image, HoldsSupervoxel}
@@ -14,7 +13,6 @@ use Rattle.edge_rows.proofs.listing.edges_of.Given as goal
 abbrev pub invariant-loop-at : goal.invariant-loop-at
 invariant-loop-at g l = record {
   same : l.w ≡ l.fn.w;
-  ascending : PairsAscend (map (λ e. e.pair) l.list.items);
   left : (d : Dataset) (b : Base) (log : List Entry) (v : ℕ) → Image d b log (g.W.Words.words l.fn.w) → HoldsSupervoxel d b log l.fn.sv v
       → (l.id ≡ v) × Listed (rows_of d b log) (edges d b (log_at d b log l.fn.prefix)) v l.fn.prefix l.list.items l.at;
 }

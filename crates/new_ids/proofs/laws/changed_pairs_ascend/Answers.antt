@@ -1,4 +1,4 @@
-use Rattle.new_ids.proofs.PairOrder.{changed_ascend}
+use Rattle.edge_rows.proofs.PairOrder.{changed_ascend}
 use Rattle.new_ids.proofs.laws.changed_pairs_ascend.Goals as goal
 
 pub returns : goal.returns
