@@ -88,7 +88,6 @@ fn start_words(alloc: Global, words: VecWords, dataset: &Dataset, _base: &Base) 
     ghost told: { Origin }
     requires told { (told.words ≡ words.words) × (told.dataset ≡ dataset.now) }
     requires opens { Opens told }
-    requires room { 8 * told.dataset.capacity ≤ length words.words + words.spare }
     ensures { IfSome result (λ s. All (IsFree s.shared) s.passes.items) }
 {
     let Ok(started) = Shared::start(alloc, words, dataset, 5) else {

@@ -66,7 +66,6 @@ fn start_words(
     ghost told: { Origin }
     requires told { (told.words ≡ words.words) × (told.dataset ≡ dataset.now) }
     requires opens { Opens told }
-    requires room { 8 * told.dataset.capacity ≤ length words.words + words.spare }
     requires clients { (0 < clients) × (clients ≤ 64) }
     ensures { IfSome result (λ s. All (IsReady s.shared dataset.now) s.passes.items) }
 {

@@ -133,11 +133,9 @@ impl Shared {
         self.rows.gather(into, other);
     }
 
-    /// Ends the rows. Gives the vector that they came from, with the words of the log as a last
-    /// look sees it.
+    /// Ends the rows. Gives the words of the log as a last look sees it. It takes no memory.
     pub fn close(self, pass: Pass) -> VecWords
         requires own { pass.table ≡ self.table }
-        requires begun { self.origin.tail ≤ pass.view.tail }
         requires idle { IsIdle pass.view }
         ensures { (w : View) × Later pass.view pass.view w × (result.words ≡ w.image) }
     {

@@ -16,7 +16,6 @@ use Rattle.thread_tests.specs.Samples.{told}
 pub ends_looked : (s : Place) (p q : Known) → Ends s p → q.table ≡ p.table → Later p.view p.view q.view → Ends s q
 ends_looked s p q e table later = record {
   table_is = table ∙ e.table_is;
-  begun = (let m = later.more in let t : q.view.tail ≡ later.tail = ap (λ (u : View). u.tail) later.is in let b = e.begun in omega arith);
   idle = record {
     held = ap (λ (u : View). u.held) later.is ∙ e.idle.held;
     has_turn = ap (λ (u : View). u.turn) later.is ∙ e.idle.has_turn;
@@ -28,13 +27,12 @@ pub ends_same : (s : Place) (p q : Known) → q ≡ p → Ends s p → Ends s q
 ends_same s p q e h = subst (Ends s) (sym e) h
 
 pub ends_joined : (s : Place) (p q r : Known) → Ends s p → r ≡ known p.table (joined p.view q.view) → Ends s r
-ends_joined s p q r e is = subst (Ends s) (sym is) record { table_is = e.table_is; begun = e.begun; idle = record { held = e.idle.held; has_turn = e.idle.has_turn; draft = e.idle.draft } }
+ends_joined s p q r e is = subst (Ends s) (sym is) record { table_is = e.table_is; idle = record { held = e.idle.held; has_turn = e.idle.has_turn; draft = e.idle.draft } }
 
 -- a pass as the start made it may be gathered
 pub ends_begun : (s : Place) (p : Known) → IsBegun s p → Ends s p
 ends_begun s p b = record {
   table_is = b.table_is;
-  begun = (let o = ap (λ (x : _). x.tail) b.origin_is in let t : p.view.tail ≡ told.tail = ap (λ (u : View). u.tail) b.view_is in omega arith);
   idle = record {
     held = ap (λ (u : View). u.held) b.view_is;
     has_turn = ap (λ (u : View). u.turn) b.view_is;

@@ -1,6 +1,6 @@
 -- Inner: no clause of `run` is made of it.
 -- Passes as the tests have them.
-use Rattle.std.specs.Prelude.{◌≡◌, ℕ, ◌≤◌}
+use Rattle.std.specs.Prelude.{◌≡◌, ℕ}
 use Rattle.shared_rows.specs.Known.{Known, Place, IsIdle}
 use Rattle.shared_rows.specs.Starts.{begun_view}
 use Rattle.thread_tests.specs.Samples.{told}
@@ -8,7 +8,6 @@ use Rattle.thread_tests.specs.Samples.{told}
 -- a pass of these rows that may be gathered
 pub record Ends (s : Place) (p : Known) : Type 0 where
   pub table_is : p.table ≡ s.table
-  pub begun : s.origin.tail ≤ p.view.tail
   pub idle : IsIdle p.view
 
 -- a pass of these rows as the start of the sample made it
