@@ -88,7 +88,7 @@ fn of_chunk(line: &[u8]) -> Option<Sentence<'_>> {
 fn of_capacity(line: &[u8]) -> Option<Sentence<'_>> {
     let need = digits_behind(line, b"\"need\":")?;
     let given = digits_behind(line, b"\"given\":")?;
-    let front = Sentence::new(b"the tables need ").and(need);
+    let front = Sentence::new(b"the base needs ").and(need);
     Some(front.and(b" records, and --records gives ").and(given))
 }
 

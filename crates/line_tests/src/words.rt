@@ -69,7 +69,7 @@ fn the_words_of_a_rehearsal(rt: HostRuntime) -> Result<(), Fail> {
             assert!(rt; has_its_names(rt.alloc(), &job)?);
             Ok(())
         }
-        Job::Make(_) => panic!(rt; "no rehearsal"),
+        Job::Make(_) | Job::Trial(_) => panic!(rt; "no rehearsal"),
     }
 }
 
@@ -176,6 +176,26 @@ fn words_in_any_order(rt: HostRuntime) -> Result<(), Fail> {
         ),
         (
             "make --from 1 --size 1 --requests 0 --bits 16 --grid 1,1,1 --supervoxels a --edges b --clock 1,1 s",
+            false,
+        ),
+        (
+            "trial --from 1 --size 20000 --requests 50 --clients 64 --bits=8 --grid 8,8,8 --merge-affinity 50 --clock 1,1",
+            true,
+        ),
+        (
+            "trial --from 1 --size 256 --requests 0 --clients 1 --bits 16 --grid 1,1,1 --merge-affinity 1 --clock 1,1",
+            false,
+        ),
+        (
+            "trial --from 1 --size 1 --requests 0 --clients 65 --bits 8 --grid 1,1,1 --merge-affinity 1 --clock 1,1",
+            false,
+        ),
+        (
+            "trial --from 1 --size 1 --requests 0 --bits 8 --grid 1,1,1 --merge-affinity 1 --clock 1,1",
+            false,
+        ),
+        (
+            "trial --from 1 --size 1 --requests 0 --clients 1 --bits 8 --grid 1,1,1 --merge-affinity 1 --clock 1,1 s",
             false,
         ),
         ("rehearse", false),

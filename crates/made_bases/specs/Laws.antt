@@ -1,4 +1,3 @@
--- Inner: no clause of `run` is made of it.
 -- What the made tables spell.
 use Rattle.std.specs.Prelude.{◌≡◌, [], map, Ok}
 use Rattle.made_input.specs.Edges.{IsWish, edges_below, supervoxel}

@@ -1,5 +1,5 @@
 -- What a call's outcome tells, by the mode of its job.
-use Rattle.std.proofs.Common.{◌≡◌, Option, Some, None, sym, ◌∙◌, subst, inl, inr}
+use Rattle.std.proofs.Common.{◌≡◌, Option, Some, None, refl, sym, ◌∙◌, ap, subst, inl, inr}
 use Rattle.std.specs.Prelude.{◌⊎◌}
 use Rattle.pcg_base.specs.Causes.{Rose}
 use Rattle.pcg_base.specs.States.{PlaceState, SinkState}
@@ -8,21 +8,40 @@ use Rattle.pcg_words.specs.declared.job.Job.{Job}
 use Rattle.pcg_words.specs.declared.job.Job.TheVariants as job
 use Rattle.pcg_words.specs.declared.job.MakeJob.{MakeJob}
 use Rattle.pcg_words.specs.declared.job.RehearseJob.{RehearseJob}
+use Rattle.pcg_words.specs.declared.job.TrialJob.{TrialJob}
 use Rattle.call_lines.specs.declared.status.Status.{Status}
 use Rattle.call_lines.specs.declared.status.Status.TheVariants as statuses
+use Rattle.call_lines.specs.declared.stops.Stop.{Stop}
+use Rattle.call_lines.specs.declared.stops.Stop.TheVariants as stops
+use Rattle.call_lines.specs.Statuses.{status_of}
+use Rattle.hierarchy_build.specs.declared.errors.BuildError.TheVariants as builds
 use Rattle.job_files.specs.Kept.{KeepsOther}
+use Rattle.job_files.proofs.Counting.{files_keep}
 use Rattle.made_files.specs.Files.{files_of}
 use Rattle.made_files.specs.Writing.{KeepsBut}
 use Rattle.rehearsal.specs.Exact.{IsQuiet}
 use Rattle.rehearsal.specs.Outcomes.{Outcome, answers_of}
 use Rattle.rehearsal.proofs.Dues.{due}
 use Rattle.rehearsal.proofs.Exact.{complete, is_done, is_faultless, tells}
+use Rattle.trials.specs.Trials.{HasFullTrial, IsTrialDone, TrialOutcome, TrialStop, TrialTells}
 use Rattle.pcg_serve.specs.Calls.{IsFaultless, IsJobDone, IsJobDue, IsJobFine, JobOutcome, JobTells, KeepsJobOthers, WordsLost}
 use Rattle.pcg_serve.specs.Making.{IsMade, MakeOutcome}
 use Rattle.pcg_serve.proofs.Made.{stop_known, stop_rose}
 
 not_both : {A : Type 0} (n a b : Status) → n ≡ a → n ≡ b → (a ≡ b → ⊥) → A
 not_both n a b e f d = absurd (d (sym e ∙ f))
+
+-- a trial stops for want of memory, or for its base
+stop_of_trial : (found : TrialJob) (stop : Stop) → TrialStop found stop → (status_of stop ≡ statuses.NoMemory) ⊎ ((status_of stop ≡ statuses.Full) × HasFullTrial found)
+stop_of_trial found stops.BadWords h = absurd h
+stop_of_trial found (stops.ReadFault client file) h = absurd h
+stop_of_trial found (stops.WriteFault client file) h = absurd h
+stop_of_trial found (stops.TooLong client file) h = absurd h
+stop_of_trial found (stops.BadTable table row cause) h = absurd h
+stop_of_trial found (stops.BadSchedule word) h = absurd h
+stop_of_trial found (stops.IdsSpent layer x y z) h = inr (refl, (builds.IdsSpent layer x y z, h))
+stop_of_trial found (stops.TooSmall need given) h = inr (refl, (builds.TooSmall need given, h))
+stop_of_trial found stops.NoMemory h = inl refl
 
 module _ (old new : PlaceState) (out out' : SinkState) (status : Status) where
   lost : {A : Type 0} → WordsLost old new out out' status → status ≡ statuses.Done → A
@@ -49,6 +68,35 @@ module _ (old new : PlaceState) (out out' : SinkState) (status : Status) where
     | inr k ↦ inr (inl (h.3 ∙ k))
   ]
 
+  -- the summary of a trial was printed
+  trial_done : (found : TrialJob) → (new ≡ old) × TrialOutcome found out out' status → status ≡ statuses.Done → ((new ≡ old) × IsTrialDone found out out') × IsFaultless old new out out'
+  trial_done found (same, inl h) z = elim (stop_of_trial found h.0 h.2) [
+    | inl k ↦ not_both status statuses.NoMemory statuses.Done (h.1 ∙ k) z (λ e. cc)
+    | inr k ↦ not_both status statuses.Full statuses.Done (h.1 ∙ k.0) z (λ e. cc)
+  ]
+  trial_done found (same, inr h) z = elim h.2 [
+    | inl p ↦ ((same, (h.0, h.1, p.0)), (ap (λ (x : PlaceState). x.reads) same, ap (λ (x : PlaceState). x.writes) same, p.1))
+    | inr p ↦ not_both status statuses.WriteFault statuses.Done p.2 z (λ e. cc)
+  ]
+
+  trial_tells : (found : TrialJob) → TrialOutcome found out out' status → TrialTells found out out' status
+  trial_tells found (inl h) = elim (stop_of_trial found h.0 h.2) [
+    | inl k ↦ inr (inl (h.1 ∙ k))
+    | inr k ↦ inr (inr (inr (h.1 ∙ k.0, k.1)))
+  ]
+  trial_tells found (inr h) = elim h.2 [
+    | inl p ↦ inl p.2
+    | inr p ↦ inr (inr (inl (p.2, p.1)))
+  ]
+
+  -- a summary is printed just where the base has its records
+  trial_due : (found : TrialJob) → TrialOutcome found out out' status → (s : Status) → (s ≡ statuses.Full) × HasFullTrial found → (status ≡ s) ⊎ (status ≡ statuses.ReadFault) ⊎ (status ≡ statuses.NoMemory)
+  trial_due found (inl h) s d = elim (stop_of_trial found h.0 h.2) [
+    | inl k ↦ inr (inr (h.1 ∙ k))
+    | inr k ↦ inl (h.1 ∙ k.0 ∙ sym d.0)
+  ]
+  trial_due found (inr h) s d = absurd (h.1.fits d.1.0 d.1.1)
+
   pub job_done : (j : Option Job) → JobOutcome j old new out out' status → status ≡ statuses.Done → IsJobDone j old new out out'
   job_done None (inl h) z = not_both status statuses.BadWords statuses.Done h.1 z (λ e. cc)
   job_done None (inr h) z = lost h z
@@ -56,6 +104,8 @@ module _ (old new : PlaceState) (out out' : SinkState) (status : Status) where
   job_done (Some (job.Rehearse found)) (inr h) z = lost h z
   job_done (Some (job.Make found)) (inl h) z = (made_done found h z).0
   job_done (Some (job.Make found)) (inr h) z = lost h z
+  job_done (Some (job.Trial found)) (inl h) z = (trial_done found h z).0
+  job_done (Some (job.Trial found)) (inr h) z = lost h z
 
   pub job_faultless : (j : Option Job) → JobOutcome j old new out out' status → status ≡ statuses.Done → IsFaultless old new out out'
   job_faultless None (inl h) z = not_both status statuses.BadWords statuses.Done h.1 z (λ e. cc)
@@ -64,6 +114,8 @@ module _ (old new : PlaceState) (out out' : SinkState) (status : Status) where
   job_faultless (Some (job.Rehearse found)) (inr h) z = lost h z
   job_faultless (Some (job.Make found)) (inl h) z = (made_done found h z).1
   job_faultless (Some (job.Make found)) (inr h) z = lost h z
+  job_faultless (Some (job.Trial found)) (inl h) z = (trial_done found h z).1
+  job_faultless (Some (job.Trial found)) (inr h) z = lost h z
 
   pub job_tells : (j : Option Job) → JobOutcome j old new out out' status → JobTells j old new out out' status
   job_tells None (inl h) = inl h.1
@@ -72,12 +124,16 @@ module _ (old new : PlaceState) (out out' : SinkState) (status : Status) where
   job_tells (Some (job.Rehearse found)) (inr h) = inr (inl h.1)
   job_tells (Some (job.Make found)) (inl h) = made_tells found h.1
   job_tells (Some (job.Make found)) (inr h) = inr (inl h.1)
+  job_tells (Some (job.Trial found)) (inl h) = trial_tells found h.1
+  job_tells (Some (job.Trial found)) (inr h) = inr (inl h.1)
 
   pub job_due : (j : Option Job) → JobOutcome j old new out out' status → (s : Status) → IsJobDue old.files j s → (status ≡ s) ⊎ (status ≡ statuses.ReadFault) ⊎ (status ≡ statuses.NoMemory)
   job_due None h s d = absurd d
   job_due (Some (job.Rehearse found)) (inl h) s d = due found old new out out' status h s d
   job_due (Some (job.Rehearse found)) (inr h) s d = inr (inr h.1)
   job_due (Some (job.Make found)) h s d = absurd d
+  job_due (Some (job.Trial found)) (inl h) s d = trial_due found h.1 s d
+  job_due (Some (job.Trial found)) (inr h) s d = inr (inr h.1)
 
   pub job_complete : (j : Option Job) → JobOutcome j old new out out' status → IsQuiet old new out out' → IsJobFine old.files j → (status ≡ statuses.Done) ⊎ (status ≡ statuses.NoMemory)
   job_complete None h q f = absurd f
@@ -91,6 +147,14 @@ module _ (old new : PlaceState) (out out' : SinkState) (status : Status) where
       quiet (inr (inr (four, inl r))) = absurd (q.1 r)
       quiet (inr (inr (four, inr r))) = absurd (q.2 r)
   job_complete (Some (job.Make found)) (inr h) q f = inr h.1
+  job_complete (Some (job.Trial found)) (inl h) q f = quiet (trial_tells found h.1)
+    where
+      quiet : TrialTells found out out' status → (status ≡ statuses.Done) ⊎ (status ≡ statuses.NoMemory)
+      quiet (inl z) = inl z
+      quiet (inr (inl n)) = inr n
+      quiet (inr (inr (inl r))) = absurd (q.2 r.1)
+      quiet (inr (inr (inr full))) = absurd (f full.1)
+  job_complete (Some (job.Trial found)) (inr h) q f = inr h.1
 
 -- the same of a job whose mode is known
 pub rehearsed_outcome : (j : Job) (found : RehearseJob) (old new : PlaceState) (out out' : SinkState) (status : Status) → j ≡ job.Rehearse found → Outcome found old new out out' status
@@ -101,8 +165,15 @@ pub made_outcome : (j : Job) (found : MakeJob) (old new : PlaceState) (out out' 
     → MakeOutcome found old new out out' status → JobOutcome (Some j) old new out out' status
 made_outcome j found old new out out' status e r h = subst (λ (x : Job). JobOutcome (Some x) old new out out' status) (sym e) (inl (r, h))
 
+pub trial_outcome : (j : Job) (found : TrialJob) (place : PlaceState) (out out' : SinkState) (status : Status) → j ≡ job.Trial found → TrialOutcome found out out' status
+    → JobOutcome (Some j) place place out out' status
+trial_outcome j found place out out' status e h = subst (λ (x : Job). JobOutcome (Some x) place place out out' status) (sym e) (inl (refl, h))
+
 pub rehearsed_others : (j : Job) (found : RehearseJob) (f g : Option Files) → j ≡ job.Rehearse found → KeepsOther f (answers_of found) g → KeepsJobOthers (Some j) f g
 rehearsed_others j found f g e h = subst (λ (x : Job). KeepsJobOthers (Some x) f g) (sym e) h
 
 pub made_others : (j : Job) (found : MakeJob) (f g : Option Files) → j ≡ job.Make found → KeepsBut (files_of found) f g → KeepsJobOthers (Some j) f g
 made_others j found f g e h = subst (λ (x : Job). KeepsJobOthers (Some x) f g) (sym e) h
+
+pub trial_others : (j : Job) (found : TrialJob) (f : Option Files) → j ≡ job.Trial found → KeepsJobOthers (Some j) f f
+trial_others j found f e = subst (λ (x : Job). KeepsJobOthers (Some x) f f) (sym e) (files_keep f)

@@ -1,9 +1,8 @@
 -- What a call of `make` promises.
 use Rattle.std.specs.Prelude.{◌≡◌, ◌*◌, ◌⊎◌, ℕ, List, length, Option}
 use Rattle.std.specs.Io.KnownBytes.{Appends}
-use Rattle.pcg_base.specs.Causes.{Rose}
 use Rattle.pcg_base.specs.States.{PlaceState, SinkState}
-use Rattle.pcg_base.specs.Told.{AppendsFront, Files}
+use Rattle.pcg_base.specs.Told.{Files}
 use Rattle.pcg_words.specs.declared.job.MakeJob.{MakeJob}
 use Rattle.made_input.specs.Texts.{input_of}
 use Rattle.made_files.specs.Files.{StopsSo, files_of, wish_of}
@@ -12,13 +11,13 @@ use Rattle.made_files.specs.declared.stops.MadeFile.TheVariants as made
 use Rattle.made_files.specs.declared.stops.MakeStop.{MakeStop}
 use Rattle.made_files.specs.declared.stops.MakeStop.TheVariants as makes
 use Rattle.call_lines.specs.declared.status.Status.{Status}
-use Rattle.call_lines.specs.declared.status.Status.TheVariants as statuses
 use Rattle.call_lines.specs.declared.stops.FileName.TheVariants as files
 use Rattle.call_lines.specs.declared.stops.Stop.{Stop}
 use Rattle.call_lines.specs.declared.stops.Stop.TheVariants as stops
 use Rattle.call_lines.specs.Printing.{Prints}
 use Rattle.call_lines.specs.Statuses.{status_of}
 use Rattle.call_lines.specs.Texts.{made_line, stop_text}
+use Rattle.trials.specs.Trials.{LinePrinted}
 
 -- how it is told that files weren't made
 abbrev pub stop_of : MakeStop → Stop
@@ -35,13 +34,8 @@ made_text job = made_line (input_of (wish_of job)).edge_count (length job.stems 
 abbrev pub IsMade : MakeJob → Option Files → Option Files → SinkState → SinkState → Type 0
 IsMade job before after out out' = PutsAll before after (files_of job) × Appends out.held out'.held (made_text job)
 
--- the line was printed, or the output failed and has a front of it
-abbrev pub MadePrinted : SinkState → SinkState → List ℕ → Status → Type 0
-MadePrinted out out' text status =
-    (Appends out.held out'.held text × (out'.faults ≡ out.faults) × (status ≡ statuses.Done)) ⊎ (AppendsFront out.held out'.held text × Rose out.faults out'.faults × (status ≡ statuses.WriteFault))
-
 -- All files were made and no count rose, and the line about them was printed unless the output failed. Or only some first ones were made and at most a front of the next one, for this reason, and the fault line alone was printed.
 abbrev pub MakeOutcome : MakeJob → PlaceState → PlaceState → SinkState → SinkState → Status → Type 0
 MakeOutcome job old new out out' status =
-    (PutsAll old.files new.files (files_of job) × (new.writes ≡ old.writes) × MadePrinted out out' (made_text job) status)
+    (PutsAll old.files new.files (files_of job) × (new.writes ≡ old.writes) × LinePrinted out out' (made_text job) status)
     ⊎ ((stop : MakeStop) × PutsSome old.files new.files (files_of job) × StopsSo job old new stop × (status ≡ status_of (stop_of stop)) × Prints out out' (stop_text (stop_of stop)))

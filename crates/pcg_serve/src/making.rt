@@ -11,8 +11,9 @@ ghost use Rattle.made_input.specs.Texts.{input_of};
 ghost use Rattle.made_files.specs.Files.{wish_of};
 ghost use Rattle.request_lines.specs.Sent.{Puts};
 ghost use Rattle.call_lines.specs.declared.status.Status.TheVariants as statuses;
-ghost use Rattle.pcg_serve.specs.Making.{MadePrinted, MakeOutcome, made_text, stop_of};
+ghost use Rattle.pcg_serve.specs.Making.{MakeOutcome, made_text, stop_of};
 ghost use Rattle.call_lines.specs.Texts.{made_line};
+ghost use Rattle.trials.specs.Trials.{LinePrinted};
 
 use call_lines::{FileName, Status, Stop};
 use made_files::{MadeFile, MakeStop, make_files};
@@ -84,7 +85,7 @@ fn write_made<K: Sink>(edges: u64, lines: u64, supervoxels: u64, out: &mut K) ->
 fn finish_made<K: Sink>(job: &MakeJob, edges: u32, out: &mut K) -> Status
     requires few { (length job.now.stems ≤ 64) × (job.now.requests ≤ 100000) }
     requires edges { edges ≡ (input_of (wish_of job.now)).edge_count }
-    ensures printed { MadePrinted (K.state out.old) (K.state out.new) (made_text job.now) result }
+    ensures printed { LinePrinted (K.state out.old) (K.state out.new) (made_text job.now) result }
     ensures flushed { result ≡ statuses.Done → IsFlushed (K.state out.new).held (K.state out.new).flushed }
     ensures later { (K.state out.old).faults ≤ (K.state out.new).faults }
 {

@@ -12,6 +12,7 @@
 //! - `session_tests`: the lines of a client's stream, given one by one from reads of several sizes, and
 //!   a stream that breaks off
 //! - `make_tests`: files that are made from a number, and one that fails
+//! - `trial_tests`: input that is made and answered in memory, and too few records for it
 //! - `samples`, `calls`: two tables, requests, and what a call makes of them
 //! - `shut_place`: a place that opens nothing for writing
 #![tactic(auto)]
@@ -34,3 +35,5 @@ mod session_tests;
 mod shut_place;
 #[cfg(test)]
 mod stop_tests;
+#[cfg(test)]
+mod trial_tests;

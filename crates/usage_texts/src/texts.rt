@@ -1,8 +1,8 @@
 //! How the program is used, and what the values of its options are.
 
 /// All modes, with their options and an example each.
-pub const USAGE: [&str; 26] = [
-    "\nusage: pcg MODE OPTIONS STEM..\n",
+pub const USAGE: [&str; 31] = [
+    "\nusage: pcg MODE OPTIONS [STEM..]\n",
     "\nOptions and stems stand in any order. An option is --name VALUE or --name=VALUE, and stands once.\n",
     "The word -- ends the options. No value and no stem begins with a hyphen. All files have names of\n",
     "their own.\n",
@@ -27,6 +27,11 @@ pub const USAGE: [&str; 26] = [
     "  --requests K           how many lines each client has, 0 to 100000\n",
     "  pcg make --bits 8 --grid 8,8,8 --supervoxels supervoxels.csv --edges edges.csv \\\n",
     "      --from 1 --size 20000 --requests 50 first second\n",
+    "\ntrial: answers input that it makes from a number, in memory, and prints a summary; it has no stems\n",
+    "  --bits, --grid, --merge-affinity, --records, --clock, --from, --size, --requests    as above\n",
+    "  --clients C            how many clients, 1 to 64\n",
+    "  pcg trial --bits 8 --grid 8,8,8 --merge-affinity 50 --records 4000000 --clock 1000,10 \\\n",
+    "      --from 1 --size 20000 --requests 50 --clients 8\n",
     "\nA number is decimal digits without a sign or a leading zero.\n",
 ];
 
@@ -41,6 +46,7 @@ pub fn form_text(option: &str) -> &'static [u8] {
         "from" => b"a number below 2^64",
         "size" => b"a number from 1 to 1000000",
         "requests" => b"a number from 0 to 100000",
+        "clients" => b"a number from 1 to 64",
         _ => b"",
     }
 }

@@ -48,6 +48,7 @@ pub fn is_of_form(option: &str, value: &[u8]) -> bool {
         "from" => is_within(0, u64::MAX, value),
         "size" => is_within(1, 1000000, value),
         "requests" => is_within(0, 100000, value),
+        "clients" => is_within(1, 64, value),
         _ => true,
     }
 }

@@ -8,7 +8,7 @@ use crate::uses::{Use, stems_before, use_at, value_of};
 use crate::values::{fits_bits, is_of_form, room_of};
 use node_ids::read_digits;
 use option_words::OptionRule;
-use pcg_words::{make_options, rehearse_options};
+use pcg_words::{make_options, rehearse_options, trial_options};
 
 /// How many stems there may be.
 const MOST_STEMS: usize = 64;
@@ -159,26 +159,34 @@ fn lacking<'a>(options: &[OptionRule], option: &'a [u8]) -> Sentence<'a> {
 /// What is wrong with a use, by its number.
 fn wrong_use<'a>(
     options: &[OptionRule],
+    has_stems: bool,
     words: &'a [Vec<u8>],
     number: usize,
     found: Use<'a>,
 ) -> Option<Sentence<'a>> {
     match found {
         Use::Value { option, value } => wrong_value(options, words, number, option, value),
+        Use::Stem { stem } if !has_stems => {
+            Some(Sentence::new(b"this mode has no stems: ").and(stem))
+        }
         Use::Stem { stem } => wrong_stem(words, number, stem),
         Use::Lacking { option } => Some(lacking(options, option)),
     }
 }
 
 /// What is missing in words of which each may stand where it does.
-fn missing<'a>(options: &[OptionRule], words: &'a [Vec<u8>]) -> Option<Sentence<'a>> {
+fn missing<'a>(
+    options: &[OptionRule],
+    has_stems: bool,
+    words: &'a [Vec<u8>],
+) -> Option<Sentence<'a>> {
     for option in options {
         let name = option.name.as_bytes();
         if option.is_required && value_of(words, name).is_none() {
             return Some(Sentence::new(b"this option is missing: --").and(name));
         }
     }
-    if stems_before(words, words.len()) == 0 {
+    if has_stems && stems_before(words, words.len()) == 0 {
         return Some(Sentence::new(b"there are no stems"));
     }
     None
@@ -212,17 +220,17 @@ fn wrong_together(words: &[Vec<u8>]) -> Sentence<'_> {
     }
 }
 
-/// What is wrong with the words behind a mode that has these options.
-fn wrong_behind<'a>(options: &[OptionRule], words: &'a [Vec<u8>]) -> Sentence<'a> {
+/// What is wrong with the words behind a mode that has these options, and stems or none.
+fn wrong_behind<'a>(options: &[OptionRule], has_stems: bool, words: &'a [Vec<u8>]) -> Sentence<'a> {
     for number in 0..words.len() {
         let Some(found) = use_at(words, number) else {
             break;
         };
-        if let Some(wrong) = wrong_use(options, words, number, found) {
+        if let Some(wrong) = wrong_use(options, has_stems, words, number, found) {
             return wrong;
         }
     }
-    match missing(options, words) {
+    match missing(options, has_stems, words) {
         Some(wrong) => wrong,
         None => wrong_together(words),
     }
@@ -234,10 +242,13 @@ pub fn wrong_in(words: &[Vec<u8>]) -> Sentence<'_> {
         return Sentence::new(b"a mode is missing");
     };
     if mode.as_slice() == b"rehearse".as_slice() {
-        return wrong_behind(rehearse_options().as_slice(), rest);
+        return wrong_behind(rehearse_options().as_slice(), true, rest);
     }
     if mode.as_slice() == b"make".as_slice() {
-        return wrong_behind(make_options().as_slice(), rest);
+        return wrong_behind(make_options().as_slice(), true, rest);
+    }
+    if mode.as_slice() == b"trial".as_slice() {
+        return wrong_behind(trial_options().as_slice(), false, rest);
     }
     Sentence::new(b"there is no mode ").and(mode.as_slice())
 }

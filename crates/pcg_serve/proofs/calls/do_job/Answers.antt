@@ -1,5 +1,5 @@
 use Rattle.std.proofs.Common.{rules}
-use Rattle.pcg_serve.proofs.Outcomes.{made_others, made_outcome, rehearsed_others, rehearsed_outcome}
+use Rattle.pcg_serve.proofs.Outcomes.{made_others, made_outcome, rehearsed_others, rehearsed_outcome, trial_others, trial_outcome}
 use Rattle.pcg_serve.proofs.calls.do_job.Goals as goal
 
 pub returns-in-Rehearse-clause-outcome : goal.returns-in-Rehearse-clause-outcome
@@ -17,3 +17,11 @@ returns-in-Make-clause-outcome g c =
 
 pub returns-in-Make-clause-others : goal.returns-in-Make-clause-others
 returns-in-Make-clause-others g c = made_others c.args.job.now c.in-Make.job (g.P.Place.state c.args.place.now).files (g.P.Place.state c.run_make.new.place).files (search rules) c.run_make.ensures.others
+
+pub returns-in-Trial-clause-outcome : goal.returns-in-Trial-clause-outcome
+returns-in-Trial-clause-outcome g c =
+    trial_outcome c.args.job.now c.in-Trial.job (g.P.Place.state c.args.place.now) (g.K.Sink.state c.args.out.now) (g.K.Sink.state c.run_trial.new.out)
+    c.run_trial.result (search rules) c.run_trial.ensures.outcome
+
+pub returns-in-Trial-clause-others : goal.returns-in-Trial-clause-others
+returns-in-Trial-clause-others g c = trial_others c.args.job.now c.in-Trial.job (g.P.Place.state c.args.place.now).files (search rules)
