@@ -70,16 +70,11 @@ module _ (v w x y z : View) (number permits : ℕ) (begun : v ≡ begun_view tol
   }
 
 -- it publishes, and gives the turn and the locks back
-pub ends_written : (s : Place) (p a b g u : Known) → IsBegun s p → a.table ≡ p.table → p.view.tail ≤ a.view.tail → b.table ≡ a.table → a.view.tail ≤ b.view.tail → b.view.draft ≡ []
+pub ends_written : (s : Place) (p a b g u : Known) → IsBegun s p → a.table ≡ p.table → b.table ≡ a.table → b.view.draft ≡ []
     → g ≡ known b.table (without_turn b.view) → u.table ≡ g.table → WithLeft g.view [] u.view → Ends s u
-ends_written s p a b g u begun one first two second clean given three left =
+ends_written s p a b g u begun one two clean given three left =
     let view : g.view ≡ without_turn b.view = ap (λ (k : Known). k.view) given in record {
       table_is = three ∙ ap (λ (k : Known). k.table) given ∙ two ∙ one ∙ begun.table_is;
-      begun =
-          let o : s.origin.tail ≡ 24 = ap (λ (x : Origin). x.tail) begun.origin_is in
-          let t : p.view.tail ≡ 24 = ap (λ (x : View). x.tail) begun.view_is in
-          let v : g.view.tail ≡ b.view.tail = ap (λ (x : View). x.tail) view in
-          let w : u.view.tail ≡ g.view.tail = ap (λ (x : View). x.tail) left.is in omega arith;
       idle = record {
         held = ap (λ (x : View). x.held) left.is;
         has_turn = ap (λ (x : View). x.turn) left.is ∙ ap (λ (x : View). x.turn) view;
