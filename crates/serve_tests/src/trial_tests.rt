@@ -20,8 +20,7 @@ fn tried(alloc: Global, words: &str) -> Result<Ran, Fail> {
 #[test]
 fn a_trial_is_summed_up(rt: HostRuntime) -> Result<(), Fail> {
     let line =
-        b"{\"accepted\":0,\"clients\":1,\"entries\":1,\"faults\":[],\"lines\":1,\"records\":6,\"refused\":0,\"roots\":1,\"status\":0}\n"
-            .as_slice();
+        b"{\"accepted\":0,\"clients\":1,\"entries\":1,\"faults\":[],\"lines\":1,\"records\":6,\"refused\":0,\"roots\":1,\"status\":0}\n".as_slice();
     assert!(rt; stops_so(&tried(rt.alloc(), WORDS)?, 0, line));
     Ok(())
 }
