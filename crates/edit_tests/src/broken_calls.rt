@@ -110,7 +110,8 @@ pub fn both<'a>() -> Session<'a> {
         edges: EDGES,
         schedule: SCHEDULE,
         requests: [REQUESTS[0], REQUESTS[1], ""],
-        answers: ["", "", ""],
+        answers: [None; 3],
+        ingest: "",
         log: "",
         summary: "",
         status: 0,
@@ -184,8 +185,8 @@ fn lines_of(text: &[u8], count: usize) -> &[u8] {
     text
 }
 
-/// How many calls of a kind a whole run makes: a read for each piece of a file and one at its end, a
-/// write for each piece of a text, and a flush for each line.
+/// How many calls of a kind a whole run makes: a read for each piece of a file and one at its end,
+/// a write for each piece of a text, and a flush for each line.
 pub fn calls_of(text: &[u8], at: &str, flush: bool, single: bool) -> usize {
     if flush || (!single && !is_read(at)) {
         line_count(text)

@@ -83,8 +83,8 @@ fn ends_so(alloc: Global, fault: &Fault<'_>, single: bool, is_met: bool) -> Resu
     Ok(is_so(&ran, &want) && counted && are_kept(alloc, &ran)?)
 }
 
-/// Fails each call of a device in turn, and three that no run makes, and answers the first number at
-/// which a run doesn't end as it should.
+/// Fails each call of a device in turn, and three that no run makes, and answers the first number
+/// at which a run doesn't end as it should.
 fn first_wrong(alloc: Global, at: &str, flush: bool, single: bool) -> Result<Option<u32>, Fail> {
     let text = text_at(alloc, at)?;
     let calls = calls_of(text.as_slice(), at, flush, single).min(65535) as u32;

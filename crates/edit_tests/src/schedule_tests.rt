@@ -1,13 +1,13 @@
 //! Schedules that are used up, or go on behind their clients' lines, and the most clients.
 
-use crate::sessions::{EDGES, SUPERVOXELS, Session, call, file_of, runs, spelled};
+use crate::sessions::{EDGES, INGEST, MERGED, SUPERVOXELS, Session, call, file_of, runs, spelled};
 use memory_devices::{MemFile, MemPlace, MemSink};
 use std::alloc::Global;
 use std::test::Fail;
 
 const MERGE: &str = "{\"do\":\"merge\",\"a\":\"`r`\",\"b\":\"`s`\"}\n";
 
-const MERGED: &str =
+const REPLY: &str =
     "{\"at\":1010,\"made\":[\"`811`\"],\"ok\":true,\"op\":1,\"retired\":[\"`809`\",\"`810`\"],\"seen\":2}\n";
 
 const SAME: &str = "{\"ok\":false,\"refusal\":\"SameRoot\",\"root\":\"`811`\",\"seen\":2}\n";
@@ -28,8 +28,9 @@ fn schedules_that_are_used_up(rt: HostRuntime) -> Result<(), Fail> {
             edges: EDGES,
             schedule,
             requests: [MERGE, MERGE, ""],
-            answers: [SAME, MERGED, ""],
-            log: "",
+            answers: [Some(SAME), Some(REPLY), Some("")],
+            ingest: INGEST,
+            log: "{\"at\":1010,\"changed\":[[\"`r`\",\"`s`\",true]],\"client\":2,\"line\":1,\"made\":[\"`811`\"],\"op\":1,\"request\":{\"a\":\"`r`\",\"b\":\"`s`\",\"do\":\"merge\"},\"retired\":[\"`809`\",\"`810`\"]}\n",
             summary: "{\"accepted\":1,\"clients\":3,\"entries\":2,\"faults\":[],\"lines\":2,\"records\":34,\"refused\":1,\"roots\":1,\"status\":0}\n",
             status: 0,
         };
@@ -76,7 +77,7 @@ fn words_for(alloc: Global, clients: u32) -> Result<String, Fail> {
 /// Whether the first of so many clients merged, and the others found the roots merged.
 fn first_merged(alloc: Global, place: &MemPlace, clients: u32) -> Result<bool, Fail> {
     for client in 0..clients {
-        let want = spelled(alloc, if client == 0 { MERGED } else { SAME })?;
+        let want = spelled(alloc, if client == 0 { REPLY } else { SAME })?;
         let name = name_of(alloc, client, ".ans")?;
         if place.bytes_at(name.as_str()).unwrap_or(b"") != want.as_slice() {
             return Ok(false);
@@ -85,21 +86,24 @@ fn first_merged(alloc: Global, place: &MemPlace, clients: u32) -> Result<bool, F
     Ok(true)
 }
 
-/// Whether a job of so many clients ends with this status, and prints a text that ends so.
-fn ends_for(alloc: Global, clients: u32, status: u8, end: &str) -> Result<bool, Fail> {
+/// Whether a job of so many clients ends with this status, and prints just this text.
+fn ends_for(alloc: Global, clients: u32, status: u8, out: &[u8]) -> Result<bool, Fail> {
     let words = words_for(alloc, clients)?;
     let place = MemPlace::new(alloc, files_for(alloc, clients)?, 65536, 65536)?;
-    let out = MemSink::new(alloc, 65536, 65536, Vec::new(alloc))?;
-    let ran = call(alloc, words.as_str(), place, out)?;
+    let sink = MemSink::new(alloc, 65536, 65536, Vec::new(alloc))?;
+    let ran = call(alloc, words.as_str(), place, sink)?;
     let answered = status != 0 || first_merged(alloc, &ran.place, clients)?;
-    Ok(answered && ran.status == status && ran.out.bytes().ends_with(end.as_bytes()))
+    Ok(answered && ran.status == status && ran.out.bytes() == out)
 }
 
 #[test]
 fn the_most_clients(rt: HostRuntime) -> Result<(), Fail> {
-    let summary =
-        "{\"accepted\":1,\"clients\":64,\"entries\":2,\"faults\":[],\"lines\":64,\"records\":34,\"refused\":63,\"roots\":1,\"status\":0}\n";
-    assert!(rt; ends_for(rt.alloc(), 64, 0, summary)?);
-    assert!(rt; ends_for(rt.alloc(), 65, 1, "{\"fault\":\"BadWords\"}\n")?);
+    let mut out = spelled(rt.alloc(), INGEST)?;
+    out.extend_from_slice(spelled(rt.alloc(), MERGED)?.as_slice())?;
+    out.extend_from_slice(
+        b"{\"accepted\":1,\"clients\":64,\"entries\":2,\"faults\":[],\"lines\":64,\"records\":34,\"refused\":63,\"roots\":1,\"status\":0}\n",
+    )?;
+    assert!(rt; ends_for(rt.alloc(), 64, 0, out.as_slice())?);
+    assert!(rt; ends_for(rt.alloc(), 65, 1, b"{\"fault\":\"BadWords\"}\n")?);
     Ok(())
 }

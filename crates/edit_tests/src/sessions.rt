@@ -15,6 +15,14 @@ pub const SUPERVOXELS: &[u8] =
 pub const EDGES: &[u8] =
     b"a,b,affinity,active\n72057594037927937,72057594037927938,10,1\n72057594037927938,72339069014638593,7,1\n72339069014638593,72339069014638594,5,0\n";
 
+/// The ingest's line of the log over the usual tables.
+pub const INGEST: &str =
+    "{\"at\":1000,\"changed\":[],\"client\":0,\"line\":0,\"made\":[\"`809`\",\"`810`\"],\"op\":0,\"request\":{\"do\":\"ingest\"},\"retired\":[]}\n";
+
+/// The line of the log of a merge of r and s that is the first line of client 1.
+pub const MERGED: &str =
+    "{\"at\":1010,\"changed\":[[\"`r`\",\"`s`\",true]],\"client\":1,\"line\":1,\"made\":[\"`811`\"],\"op\":1,\"request\":{\"a\":\"`r`\",\"b\":\"`s`\",\"do\":\"merge\"},\"retired\":[\"`809`\",\"`810`\"]}\n";
+
 /// The words of a job of one client over the usual tables.
 pub const ONE: &str =
     "rehearse --bits 8 --grid 2,1,1 --supervoxels supervoxels.csv --edges edges.csv --merge-affinity 1 --clock 1000,10 first";
@@ -23,8 +31,9 @@ pub const ONE: &str =
 pub const TWO: &str =
     "rehearse --bits 8 --grid 2,1,1 --supervoxels supervoxels.csv --edges edges.csv --merge-affinity 1 --clock 1000,10 first second";
 
-/// A session: its words and tables, each client's requests and the answers that it gets, and how what
-/// is printed begins and ends.
+/// A session: its words and tables, each client's requests, and the whole of what it comes to. That
+/// is what the answer files hold, where there are any, and what is printed: the ingest's line, the
+/// lines of the other entries, and the summary.
 #[derive(Clone, Copy)]
 pub struct Session<'a> {
     pub words: &'a str,
@@ -32,13 +41,14 @@ pub struct Session<'a> {
     pub edges: &'a [u8],
     pub schedule: &'a str,
     pub requests: [&'a str; 3],
-    pub answers: [&'a str; 3],
+    pub answers: [Option<&'a str>; 3],
+    pub ingest: &'a str,
     pub log: &'a str,
     pub summary: &'a str,
     pub status: u8,
 }
 
-/// A session of one client over the usual tables that ends well.
+/// A session of one client over the usual tables that ends well, and whose log is the ingest alone.
 pub fn alone<'a>(requests: &'a str, answers: &'a str, summary: &'a str) -> Session<'a> {
     Session {
         words: ONE,
@@ -46,7 +56,8 @@ pub fn alone<'a>(requests: &'a str, answers: &'a str, summary: &'a str) -> Sessi
         edges: EDGES,
         schedule: "",
         requests: [requests, "", ""],
-        answers: [answers, "", ""],
+        answers: [Some(answers), None, None],
+        ingest: INGEST,
         log: "",
         summary,
         status: 0,
@@ -94,8 +105,9 @@ pub struct Fault<'a> {
     pub number: u32,
 }
 
-/// What a session meets: whether each device goes by single bytes, what the answer files hold at the
-/// start, and the calls that fail.
+/// What a session meets: whether each device goes by single bytes, what the answer files of the
+/// first two clients hold at the start, and the calls that fail. Where `old` is empty there are no
+/// such files.
 #[derive(Clone, Copy)]
 pub struct Outside<'a> {
     pub single: bool,
@@ -196,8 +208,10 @@ fn put_clients(
     outside: &Outside<'_>,
 ) -> Result<(), Fail> {
     let old = outside.old.as_bytes();
-    put_file(alloc, files, outside.faults, "first.ans", old)?;
-    put_file(alloc, files, outside.faults, "second.ans", old)?;
+    if !old.is_empty() {
+        put_file(alloc, files, outside.faults, "first.ans", old)?;
+        put_file(alloc, files, outside.faults, "second.ans", old)?;
+    }
     put_requests(
         alloc,
         files,
@@ -288,13 +302,21 @@ pub fn call_of(alloc: Global, session: &Session<'_>, outside: &Outside<'_>) -> R
     call(alloc, session.words, place, out)
 }
 
-/// Whether a client's answers are these, where there are any.
-fn answered(alloc: Global, place: &MemPlace, name: &str, answers: &str) -> Result<bool, Fail> {
-    let want = spelled(alloc, answers)?;
-    Ok(place.bytes_at(name).unwrap_or(b"") == want.as_slice())
+/// Whether an answer file holds this, or isn't there where nothing is wanted.
+fn answered(
+    alloc: Global,
+    place: &MemPlace,
+    name: &str,
+    answers: Option<&str>,
+) -> Result<bool, Fail> {
+    let want = spelled(alloc, answers.unwrap_or(""))?;
+    Ok(match place.bytes_at(name) {
+        Some(bytes) => answers.is_some() && bytes == want.as_slice(),
+        None => answers.is_none(),
+    })
 }
 
-/// Whether all clients' answers are the session's.
+/// Whether all answer files are the session's.
 fn all_answered(alloc: Global, place: &MemPlace, session: &Session<'_>) -> Result<bool, Fail> {
     for (name, answers) in [
         ("first.ans", session.answers[0]),
@@ -308,11 +330,12 @@ fn all_answered(alloc: Global, place: &MemPlace, session: &Session<'_>) -> Resul
     Ok(true)
 }
 
-/// Whether a call printed a text that begins and ends as the session says.
+/// Whether a call printed the session's text.
 fn printed(alloc: Global, ran: &Ran, session: &Session<'_>) -> Result<bool, Fail> {
-    let log = spelled(alloc, session.log)?;
-    let out = ran.out.bytes();
-    Ok(out.starts_with(log.as_slice()) && out.ends_with(session.summary.as_bytes()))
+    let mut want = spelled(alloc, session.ingest)?;
+    want.extend_from_slice(spelled(alloc, session.log)?.as_slice())?;
+    want.extend_from_slice(session.summary.as_bytes())?;
+    Ok(ran.out.bytes() == want.as_slice())
 }
 
 /// Whether a session runs as it says where these calls fail.

@@ -1,16 +1,17 @@
 //! Worked sessions of clients that edit.
 
-use crate::sessions::{EDGES, Fault, Outside, SUPERVOXELS, Session, TWO, alone, runs, runs_with};
+use crate::sessions::{
+    EDGES, Fault, INGEST, MERGED, Outside, SUPERVOXELS, Session, TWO, alone, runs, runs_with,
+};
 use std::alloc::Global;
 use std::test::Fail;
 
-/// A merge, reads of now and of a time, a split with its cut and flow, an undo that was overtaken, an
-/// undo and a redo of the split, and the changes and the leaves of roots.
+/// A merge, reads of now and of a time, a split with its cut and flow, an undo that was overtaken,
+/// an undo and a redo of the split, and the changes and the leaves of roots.
 #[test]
 fn one_client_edits(rt: HostRuntime) -> Result<(), Fail> {
     let session = Session {
         log: concat!(
-            "{\"at\":1000,\"changed\":[],\"client\":0,\"line\":0,\"made\":[\"`809`\",\"`810`\"],\"op\":0,\"request\":{\"do\":\"ingest\"},\"retired\":[]}\n",
             "{\"at\":1010,\"changed\":[[\"`r`\",\"`s`\",true]],\"client\":1,\"line\":1,\"made\":[\"`811`\"],\"op\":1,\"request\":{\"a\":\"`r`\",\"b\":\"`s`\",\"do\":\"merge\"},\"retired\":[\"`809`\",\"`810`\"]}\n",
             "{\"at\":1020,\"changed\":[[\"`r`\",\"`s`\",false]],\"client\":1,\"line\":4,\"made\":[\"`812`\",\"`813`\"],\"op\":2,\"request\":{\"do\":\"split\",\"sinks\":[\"`s`\"],\"sources\":[\"`p`\"]},\"retired\":[\"`811`\"]}\n",
             "{\"at\":1030,\"changed\":[[\"`r`\",\"`s`\",true]],\"client\":1,\"line\":11,\"made\":[\"`814`\"],\"op\":3,\"request\":{\"do\":\"undo\",\"op\":2},\"retired\":[\"`812`\",\"`813`\"]}\n",
@@ -49,9 +50,21 @@ fn one_client_edits(rt: HostRuntime) -> Result<(), Fail> {
                 "{\"leaves\":[\"`p`\",\"`q`\",\"`r`\"],\"ok\":true,\"seen\":5}\n",
                 "{\"leaves\":[\"`s`\"],\"ok\":true,\"seen\":5}\n",
             ),
-            "\"accepted\":4,\"clients\":1,\"entries\":5,\"faults\":[],\"lines\":14,\"records\":66,\"refused\":1,\"roots\":2,\"status\":0}\n",
+            "{\"accepted\":4,\"clients\":1,\"entries\":5,\"faults\":[],\"lines\":14,\"records\":66,\"refused\":1,\"roots\":2,\"status\":0}\n",
         )
     };
+    assert!(rt; runs(rt.alloc(), &session)?);
+    Ok(())
+}
+
+/// A client without lines: its answer file is there and empty.
+#[test]
+fn no_requests(rt: HostRuntime) -> Result<(), Fail> {
+    let session = alone(
+        "",
+        "",
+        "{\"accepted\":0,\"clients\":1,\"entries\":1,\"faults\":[],\"lines\":0,\"records\":24,\"refused\":0,\"roots\":2,\"status\":0}\n",
+    );
     assert!(rt; runs(rt.alloc(), &session)?);
     Ok(())
 }
@@ -59,41 +72,47 @@ fn one_client_edits(rt: HostRuntime) -> Result<(), Fail> {
 /// Refusals of edits, each for its first cause, after a merge of r and s.
 #[test]
 fn edits_that_are_refused(rt: HostRuntime) -> Result<(), Fail> {
-    let session = alone(
-        concat!(
-            "{\"do\":\"merge\",\"a\":\"`p`\",\"b\":\"`q`\"}\n",
-            "{\"do\":\"merge\",\"a\":\"`p`\",\"b\":\"`p`\"}\n",
-            "{\"do\":\"split\",\"sources\":[\"`p`\"],\"sinks\":[\"`p`\"]}\n",
-            "{\"do\":\"split\",\"sources\":[\"`p`\"],\"sinks\":[\"`p`\",\"5\"]}\n",
-            "{\"do\":\"split\",\"sources\":[\"`p`\"],\"sinks\":[\"`s`\"]}\n",
-            "{\"do\":\"split\",\"sources\":[\"`p`\"],\"sinks\":[]}\n",
-            "{\"do\":\"undo\",\"op\":9}\n",
-            "{\"do\":\"undo\",\"op\":0}\n",
-            "{\"do\":\"leaves\",\"root\":\"`p`\"}\n",
-            "{\"do\":\"leaves\",\"root\":\"`899`\"}\n",
-            "{\"do\":\"merge\",\"a\":\"`r`\",\"b\":\"`s`\"}\n",
-            "{\"do\":\"redo\",\"op\":1}\n",
-            "{\"do\":\"undo\",\"op\":1}\n",
-            "{\"do\":\"undo\",\"op\":1}\n",
+    let session = Session {
+        log: concat!(
+            "{\"at\":1010,\"changed\":[[\"`r`\",\"`s`\",true]],\"client\":1,\"line\":11,\"made\":[\"`811`\"],\"op\":1,\"request\":{\"a\":\"`r`\",\"b\":\"`s`\",\"do\":\"merge\"},\"retired\":[\"`809`\",\"`810`\"]}\n",
+            "{\"at\":1020,\"changed\":[[\"`r`\",\"`s`\",false]],\"client\":1,\"line\":13,\"made\":[\"`812`\",\"`813`\"],\"op\":2,\"request\":{\"do\":\"undo\",\"op\":1},\"retired\":[\"`811`\"]}\n",
         ),
-        concat!(
-            "{\"ok\":false,\"refusal\":\"SameRoot\",\"root\":\"`809`\",\"seen\":1}\n",
-            "{\"ok\":false,\"refusal\":\"SameRoot\",\"root\":\"`809`\",\"seen\":1}\n",
-            "{\"id\":\"`p`\",\"ok\":false,\"refusal\":\"BothSides\",\"seen\":1}\n",
-            "{\"id\":\"5\",\"ok\":false,\"refusal\":\"NoSuchSupervoxel\",\"seen\":1}\n",
-            "{\"first\":\"`809`\",\"ok\":false,\"other\":\"`810`\",\"refusal\":\"DifferentRoots\",\"seen\":1}\n",
-            "{\"ok\":false,\"refusal\":\"NoMarks\",\"seen\":1}\n",
-            "{\"ok\":false,\"op\":9,\"refusal\":\"NoSuchOp\",\"seen\":1}\n",
-            "{\"ok\":false,\"op\":0,\"refusal\":\"NotAnEdit\",\"seen\":1}\n",
-            "{\"id\":\"`p`\",\"ok\":false,\"refusal\":\"NotARoot\",\"seen\":1}\n",
-            "{\"id\":\"`899`\",\"ok\":false,\"refusal\":\"NoSuchRoot\",\"seen\":1}\n",
-            "{\"at\":1010,\"made\":[\"`811`\"],\"ok\":true,\"op\":1,\"retired\":[\"`809`\",\"`810`\"],\"seen\":2}\n",
-            "{\"ok\":false,\"op\":1,\"refusal\":\"InForce\",\"seen\":2}\n",
-            "{\"at\":1020,\"made\":[\"`812`\",\"`813`\"],\"ok\":true,\"op\":2,\"retired\":[\"`811`\"],\"seen\":3}\n",
-            "{\"ok\":false,\"op\":1,\"refusal\":\"NotInForce\",\"seen\":3}\n",
-        ),
-        "\"accepted\":2,\"clients\":1,\"entries\":3,\"faults\":[],\"lines\":14,\"records\":45,\"refused\":12,\"roots\":2,\"status\":0}\n",
-    );
+        ..alone(
+            concat!(
+                "{\"do\":\"merge\",\"a\":\"`p`\",\"b\":\"`q`\"}\n",
+                "{\"do\":\"merge\",\"a\":\"`p`\",\"b\":\"`p`\"}\n",
+                "{\"do\":\"split\",\"sources\":[\"`p`\"],\"sinks\":[\"`p`\"]}\n",
+                "{\"do\":\"split\",\"sources\":[\"`p`\"],\"sinks\":[\"`p`\",\"5\"]}\n",
+                "{\"do\":\"split\",\"sources\":[\"`p`\"],\"sinks\":[\"`s`\"]}\n",
+                "{\"do\":\"split\",\"sources\":[\"`p`\"],\"sinks\":[]}\n",
+                "{\"do\":\"undo\",\"op\":9}\n",
+                "{\"do\":\"undo\",\"op\":0}\n",
+                "{\"do\":\"leaves\",\"root\":\"`p`\"}\n",
+                "{\"do\":\"leaves\",\"root\":\"`899`\"}\n",
+                "{\"do\":\"merge\",\"a\":\"`r`\",\"b\":\"`s`\"}\n",
+                "{\"do\":\"redo\",\"op\":1}\n",
+                "{\"do\":\"undo\",\"op\":1}\n",
+                "{\"do\":\"undo\",\"op\":1}\n",
+            ),
+            concat!(
+                "{\"ok\":false,\"refusal\":\"SameRoot\",\"root\":\"`809`\",\"seen\":1}\n",
+                "{\"ok\":false,\"refusal\":\"SameRoot\",\"root\":\"`809`\",\"seen\":1}\n",
+                "{\"id\":\"`p`\",\"ok\":false,\"refusal\":\"BothSides\",\"seen\":1}\n",
+                "{\"id\":\"5\",\"ok\":false,\"refusal\":\"NoSuchSupervoxel\",\"seen\":1}\n",
+                "{\"first\":\"`809`\",\"ok\":false,\"other\":\"`810`\",\"refusal\":\"DifferentRoots\",\"seen\":1}\n",
+                "{\"ok\":false,\"refusal\":\"NoMarks\",\"seen\":1}\n",
+                "{\"ok\":false,\"op\":9,\"refusal\":\"NoSuchOp\",\"seen\":1}\n",
+                "{\"ok\":false,\"op\":0,\"refusal\":\"NotAnEdit\",\"seen\":1}\n",
+                "{\"id\":\"`p`\",\"ok\":false,\"refusal\":\"NotARoot\",\"seen\":1}\n",
+                "{\"id\":\"`899`\",\"ok\":false,\"refusal\":\"NoSuchRoot\",\"seen\":1}\n",
+                "{\"at\":1010,\"made\":[\"`811`\"],\"ok\":true,\"op\":1,\"retired\":[\"`809`\",\"`810`\"],\"seen\":2}\n",
+                "{\"ok\":false,\"op\":1,\"refusal\":\"InForce\",\"seen\":2}\n",
+                "{\"at\":1020,\"made\":[\"`812`\",\"`813`\"],\"ok\":true,\"op\":2,\"retired\":[\"`811`\"],\"seen\":3}\n",
+                "{\"ok\":false,\"op\":1,\"refusal\":\"NotInForce\",\"seen\":3}\n",
+            ),
+            "{\"accepted\":2,\"clients\":1,\"entries\":3,\"faults\":[],\"lines\":14,\"records\":45,\"refused\":12,\"roots\":2,\"status\":0}\n",
+        )
+    };
     assert!(rt; runs(rt.alloc(), &session)?);
     Ok(())
 }
@@ -108,7 +127,7 @@ fn marks_joined_by_glue(rt: HostRuntime) -> Result<(), Fail> {
             concat!(
                 "{\"ok\":false,\"refusal\":\"Glued\",\"seen\":1,\"sink\":\"`q`\",\"source\":\"`p`\"}\n",
             ),
-            "\"accepted\":0,\"clients\":1,\"entries\":1,\"faults\":[],\"lines\":1,\"records\":24,\"refused\":1,\"roots\":2,\"status\":0}\n",
+            "{\"accepted\":0,\"clients\":1,\"entries\":1,\"faults\":[],\"lines\":1,\"records\":24,\"refused\":1,\"roots\":2,\"status\":0}\n",
         )
     };
     assert!(rt; runs(rt.alloc(), &session)?);
@@ -120,6 +139,10 @@ fn marks_joined_by_glue(rt: HostRuntime) -> Result<(), Fail> {
 fn records_run_out(rt: HostRuntime) -> Result<(), Fail> {
     let session = Session {
         words: "rehearse --bits 8 --grid 2,1,1 --supervoxels supervoxels.csv --edges edges.csv --merge-affinity 1 --records 46 --clock 1000,10 first",
+        log: concat!(
+            "{\"at\":1010,\"changed\":[[\"`r`\",\"`s`\",true]],\"client\":1,\"line\":1,\"made\":[\"`811`\"],\"op\":1,\"request\":{\"a\":\"`r`\",\"b\":\"`s`\",\"do\":\"merge\"},\"retired\":[\"`809`\",\"`810`\"]}\n",
+            "{\"at\":1020,\"changed\":[[\"`r`\",\"`s`\",false]],\"client\":1,\"line\":3,\"made\":[\"`812`\",\"`813`\"],\"op\":2,\"request\":{\"do\":\"undo\",\"op\":1},\"retired\":[\"`811`\"]}\n",
+        ),
         ..alone(
             concat!(
                 "{\"do\":\"merge\",\"a\":\"`r`\",\"b\":\"`s`\"}\n",
@@ -143,12 +166,13 @@ fn records_run_out(rt: HostRuntime) -> Result<(), Fail> {
 fn the_clock_ends(rt: HostRuntime) -> Result<(), Fail> {
     let session = Session {
         words: "rehearse --bits 8 --grid 2,1,1 --supervoxels supervoxels.csv --edges edges.csv --merge-affinity 1 --clock 4611686018427387903,0 first",
+        ingest: "{\"at\":4611686018427387903,\"changed\":[],\"client\":0,\"line\":0,\"made\":[\"`809`\",\"`810`\"],\"op\":0,\"request\":{\"do\":\"ingest\"},\"retired\":[]}\n",
         ..alone(
             concat!("{\"do\":\"merge\",\"a\":\"`r`\",\"b\":\"`s`\"}\n",),
             concat!(
                 "{\"last\":4611686018427387903,\"ok\":false,\"refusal\":\"ClockEnd\",\"seen\":1}\n",
             ),
-            "\"accepted\":0,\"clients\":1,\"entries\":1,\"faults\":[],\"lines\":1,\"records\":24,\"refused\":1,\"roots\":2,\"status\":0}\n",
+            "{\"accepted\":0,\"clients\":1,\"entries\":1,\"faults\":[],\"lines\":1,\"records\":24,\"refused\":1,\"roots\":2,\"status\":0}\n",
         )
     };
     assert!(rt; runs(rt.alloc(), &session)?);
@@ -158,25 +182,34 @@ fn the_clock_ends(rt: HostRuntime) -> Result<(), Fail> {
 /// The last undo leaves r and s joined through p.
 #[test]
 fn undone_and_joined_otherwise(rt: HostRuntime) -> Result<(), Fail> {
-    let session = alone(
-        concat!(
-            "{\"do\":\"merge\",\"a\":\"`r`\",\"b\":\"`s`\"}\n",
-            "{\"do\":\"undo\",\"op\":1}\n",
-            "{\"do\":\"merge\",\"a\":\"`p`\",\"b\":\"`s`\"}\n",
-            "{\"do\":\"redo\",\"op\":1}\n",
-            "{\"do\":\"undo\",\"op\":1}\n",
-            "{\"do\":\"leaves\",\"root\":\"`816`\"}\n",
+    let session = Session {
+        log: concat!(
+            "{\"at\":1010,\"changed\":[[\"`r`\",\"`s`\",true]],\"client\":1,\"line\":1,\"made\":[\"`811`\"],\"op\":1,\"request\":{\"a\":\"`r`\",\"b\":\"`s`\",\"do\":\"merge\"},\"retired\":[\"`809`\",\"`810`\"]}\n",
+            "{\"at\":1020,\"changed\":[[\"`r`\",\"`s`\",false]],\"client\":1,\"line\":2,\"made\":[\"`812`\",\"`813`\"],\"op\":2,\"request\":{\"do\":\"undo\",\"op\":1},\"retired\":[\"`811`\"]}\n",
+            "{\"at\":1030,\"changed\":[[\"`p`\",\"`s`\",true]],\"client\":1,\"line\":3,\"made\":[\"`814`\"],\"op\":3,\"request\":{\"a\":\"`p`\",\"b\":\"`s`\",\"do\":\"merge\"},\"retired\":[\"`812`\",\"`813`\"]}\n",
+            "{\"at\":1040,\"changed\":[[\"`r`\",\"`s`\",true]],\"client\":1,\"line\":4,\"made\":[\"`815`\"],\"op\":4,\"request\":{\"do\":\"redo\",\"op\":1},\"retired\":[\"`814`\"]}\n",
+            "{\"at\":1050,\"changed\":[[\"`r`\",\"`s`\",false]],\"client\":1,\"line\":5,\"made\":[\"`816`\"],\"op\":5,\"request\":{\"do\":\"undo\",\"op\":1},\"retired\":[\"`815`\"]}\n",
         ),
-        concat!(
-            "{\"at\":1010,\"made\":[\"`811`\"],\"ok\":true,\"op\":1,\"retired\":[\"`809`\",\"`810`\"],\"seen\":2}\n",
-            "{\"at\":1020,\"made\":[\"`812`\",\"`813`\"],\"ok\":true,\"op\":2,\"retired\":[\"`811`\"],\"seen\":3}\n",
-            "{\"at\":1030,\"made\":[\"`814`\"],\"ok\":true,\"op\":3,\"retired\":[\"`812`\",\"`813`\"],\"seen\":4}\n",
-            "{\"at\":1040,\"made\":[\"`815`\"],\"ok\":true,\"op\":4,\"retired\":[\"`814`\"],\"seen\":5}\n",
-            "{\"at\":1050,\"made\":[\"`816`\"],\"ok\":true,\"op\":5,\"retired\":[\"`815`\"],\"seen\":6}\n",
-            "{\"leaves\":[\"`p`\",\"`q`\",\"`r`\",\"`s`\"],\"ok\":true,\"seen\":6}\n",
-        ),
-        "\"accepted\":5,\"clients\":1,\"entries\":6,\"faults\":[],\"lines\":6,\"records\":77,\"refused\":0,\"roots\":1,\"status\":0}\n",
-    );
+        ..alone(
+            concat!(
+                "{\"do\":\"merge\",\"a\":\"`r`\",\"b\":\"`s`\"}\n",
+                "{\"do\":\"undo\",\"op\":1}\n",
+                "{\"do\":\"merge\",\"a\":\"`p`\",\"b\":\"`s`\"}\n",
+                "{\"do\":\"redo\",\"op\":1}\n",
+                "{\"do\":\"undo\",\"op\":1}\n",
+                "{\"do\":\"leaves\",\"root\":\"`816`\"}\n",
+            ),
+            concat!(
+                "{\"at\":1010,\"made\":[\"`811`\"],\"ok\":true,\"op\":1,\"retired\":[\"`809`\",\"`810`\"],\"seen\":2}\n",
+                "{\"at\":1020,\"made\":[\"`812`\",\"`813`\"],\"ok\":true,\"op\":2,\"retired\":[\"`811`\"],\"seen\":3}\n",
+                "{\"at\":1030,\"made\":[\"`814`\"],\"ok\":true,\"op\":3,\"retired\":[\"`812`\",\"`813`\"],\"seen\":4}\n",
+                "{\"at\":1040,\"made\":[\"`815`\"],\"ok\":true,\"op\":4,\"retired\":[\"`814`\"],\"seen\":5}\n",
+                "{\"at\":1050,\"made\":[\"`816`\"],\"ok\":true,\"op\":5,\"retired\":[\"`815`\"],\"seen\":6}\n",
+                "{\"leaves\":[\"`p`\",\"`q`\",\"`r`\",\"`s`\"],\"ok\":true,\"seen\":6}\n",
+            ),
+            "{\"accepted\":5,\"clients\":1,\"entries\":6,\"faults\":[],\"lines\":6,\"records\":77,\"refused\":0,\"roots\":1,\"status\":0}\n",
+        )
+    };
     assert!(rt; runs(rt.alloc(), &session)?);
     Ok(())
 }
@@ -195,13 +228,16 @@ fn two_clients_merge_the_same(rt: HostRuntime) -> Result<(), Fail> {
             "",
         ],
         answers: [
-            concat!(
+            Some(concat!(
                 "{\"at\":1010,\"made\":[\"`811`\"],\"ok\":true,\"op\":1,\"retired\":[\"`809`\",\"`810`\"],\"seen\":2}\n",
-            ),
-            concat!("{\"ok\":false,\"refusal\":\"SameRoot\",\"root\":\"`811`\",\"seen\":2}\n",),
-            "",
+            )),
+            Some(concat!(
+                "{\"ok\":false,\"refusal\":\"SameRoot\",\"root\":\"`811`\",\"seen\":2}\n",
+            )),
+            None,
         ],
-        log: "",
+        ingest: INGEST,
+        log: MERGED,
         summary: "{\"accepted\":1,\"clients\":2,\"entries\":2,\"faults\":[],\"lines\":2,\"records\":34,\"refused\":1,\"roots\":1,\"status\":0}\n",
         status: 0,
     };
@@ -209,7 +245,8 @@ fn two_clients_merge_the_same(rt: HostRuntime) -> Result<(), Fail> {
     Ok(())
 }
 
-/// Client 2 looks first and waits for a lock; client 1 is logged first. Client 2 finds at its pin that its roots have gone, begins again, and is logged second. Client 3 reads in between.
+/// Client 2 looks first and waits for a lock; client 1 is logged first. Client 2 finds at its pin
+/// that its roots have gone, begins again, and is logged second. Client 3 reads in between.
 #[test]
 fn a_schedule_used_up(rt: HostRuntime) -> Result<(), Fail> {
     let session = Session {
@@ -228,21 +265,25 @@ fn a_schedule_used_up(rt: HostRuntime) -> Result<(), Fail> {
             ),
         ],
         answers: [
-            concat!(
+            Some(concat!(
                 "{\"at\":1010,\"made\":[\"`812`\"],\"ok\":true,\"op\":1,\"retired\":[\"`809`\",\"`810`\"],\"seen\":2}\n",
-            ),
-            concat!(
+            )),
+            Some(concat!(
                 "{\"at\":1020,\"made\":[\"`813`\"],\"ok\":true,\"op\":2,\"retired\":[\"`811`\",\"`812`\"],\"seen\":3}\n",
-            ),
-            concat!(
+            )),
+            Some(concat!(
                 "{\"ok\":true,\"root\":\"`809`\",\"seen\":1}\n",
                 "{\"ok\":true,\"root\":\"`812`\",\"seen\":2}\n",
                 "{\"ok\":true,\"root\":\"`812`\",\"seen\":2}\n",
                 "{\"ok\":true,\"root\":\"`813`\",\"seen\":3}\n",
-            ),
+            )),
         ],
-        log: "",
-        summary: "\"accepted\":2,\"clients\":3,\"entries\":3,\"faults\":[],\"lines\":6,\"records\":53,\"refused\":0,\"roots\":1,\"status\":0}\n",
+        ingest: "{\"at\":1000,\"changed\":[],\"client\":0,\"line\":0,\"made\":[\"`809`\",\"`810`\",\"`811`\"],\"op\":0,\"request\":{\"do\":\"ingest\"},\"retired\":[]}\n",
+        log: concat!(
+            "{\"at\":1010,\"changed\":[[\"`r`\",\"`s`\",true]],\"client\":1,\"line\":1,\"made\":[\"`812`\"],\"op\":1,\"request\":{\"a\":\"`r`\",\"b\":\"`s`\",\"do\":\"merge\"},\"retired\":[\"`809`\",\"`810`\"]}\n",
+            "{\"at\":1020,\"changed\":[[\"`p`\",\"`t`\",true]],\"client\":2,\"line\":1,\"made\":[\"`813`\"],\"op\":2,\"request\":{\"a\":\"`p`\",\"b\":\"`t`\",\"do\":\"merge\"},\"retired\":[\"`811`\",\"`812`\"]}\n",
+        ),
+        summary: "{\"accepted\":2,\"clients\":3,\"entries\":3,\"faults\":[],\"lines\":6,\"records\":53,\"refused\":0,\"roots\":1,\"status\":0}\n",
         status: 0,
     };
     assert!(rt; runs(rt.alloc(), &session)?);
@@ -267,14 +308,15 @@ fn a_reply_that_is_not_written(rt: HostRuntime) -> Result<(), Fail> {
             "",
         ],
         answers: [
-            concat!(
+            Some(concat!(
                 "{\"at\":1010,\"made\":[\"`811`\"],\"ok\":true,\"op\":1,\"retired\":[\"`809`\",\"`810`\"],\"seen\":2}\n",
                 "{\"ok\":true,\"root\":\"`811`\",\"seen\":2}\n",
-            ),
-            concat!("{\"ok\":true,\"root\":\"`811`\",\"seen\":2}\n",),
-            "",
+            )),
+            Some(concat!("{\"ok\":true,\"root\":\"`811`\",\"seen\":2}\n",)),
+            None,
         ],
-        log: "",
+        ingest: INGEST,
+        log: MERGED,
         summary: "{\"accepted\":1,\"clients\":2,\"entries\":2,\"faults\":[[1,\"WriteFault\"]],\"lines\":3,\"records\":34,\"refused\":0,\"roots\":1,\"status\":4}\n",
         status: 4,
     };
@@ -286,7 +328,7 @@ fn a_reply_that_is_not_written(rt: HostRuntime) -> Result<(), Fail> {
     let faults = [third];
     let outside = Outside {
         single: false,
-        old: "",
+        old: "old",
         faults: faults.as_slice(),
     };
     assert!(rt; runs_with(rt.alloc(), &session, &outside)?);
@@ -302,8 +344,9 @@ fn a_word_that_is_no_client(rt: HostRuntime) -> Result<(), Fail> {
         edges: EDGES,
         schedule: "1 x",
         requests: [concat!("{\"do\":\"root\",\"sv\":\"`s`\"}\n",), "", ""],
-        answers: ["", "", ""],
-        log: concat!("{\"fault\":\"BadSchedule\",\"word\":2}\n",),
+        answers: [None; 3],
+        ingest: "",
+        log: "",
         summary: "{\"fault\":\"BadSchedule\",\"word\":2}\n",
         status: 3,
     };
@@ -322,25 +365,11 @@ fn two_clients_without_room(rt: HostRuntime) -> Result<(), Fail> {
         edges: EDGES,
         schedule: "",
         requests: [merge, merge, ""],
-        answers: [full, full, ""],
+        answers: [Some(full), Some(full), None],
+        ingest: INGEST,
         log: "",
         summary: "{\"accepted\":0,\"clients\":2,\"entries\":1,\"faults\":[],\"lines\":2,\"records\":24,\"refused\":2,\"roots\":2,\"status\":0}\n",
         status: 0,
-    };
-    assert!(rt; runs(rt.alloc(), &session)?);
-    Ok(())
-}
-
-/// A merge of three pairs, of which two are the same.
-#[test]
-fn a_merge_of_pairs(rt: HostRuntime) -> Result<(), Fail> {
-    let session = Session {
-        supervoxels: b"supervoxel\n72057594037927937\n72057594037927938\n72339069014638593\n72339069014638594\n72339069014638595\n",
-        ..alone(
-            "{\"do\":\"merge\",\"pairs\":[[\"`r`\",\"`s`\"],[\"`p`\",\"`t`\"],[\"`s`\",\"`r`\"]]}\n",
-            "{\"at\":1010,\"made\":[\"`812`\"],\"ok\":true,\"op\":1,\"retired\":[\"`809`\",\"`810`\",\"`811`\"],\"seen\":2}\n",
-            "{\"accepted\":1,\"clients\":1,\"entries\":2,\"faults\":[],\"lines\":1,\"records\":51,\"refused\":0,\"roots\":1,\"status\":0}\n",
-        )
     };
     assert!(rt; runs(rt.alloc(), &session)?);
     Ok(())

@@ -1,4 +1,5 @@
-//! One run over devices that take a byte a call, and with each single call of a device failing in turn.
+//! One run over devices that take a byte a call, and with each single call of a device failing in
+//! turn.
 
 use crate::calls::{Outside, Ran, call, ends_so, usual};
 use crate::samples::{LOG, REPLIES, SUMMARY};
@@ -81,7 +82,8 @@ fn each_call_fails(rt: HostRuntime) -> Result<(), Fail> {
     Ok(())
 }
 
-/// A reply whose flush fails is its client's fault, and a failed flush of the output ends with status 4.
+/// A reply whose flush fails is its client's fault, and a failed flush of the output ends with
+/// status 4.
 #[test]
 fn each_flush_fails(rt: HostRuntime) -> Result<(), Fail> {
     let first = b"{\"ok\":true,\"root\":\"216172782113783809\",\"seen\":1}\n".as_slice();

@@ -1,5 +1,5 @@
-//! Tables and requests that a call of the program makes from a number. What is wanted was made by a second
-//! program, in Python.
+//! Tables and requests that a call of the program makes from a number. What is wanted was made by a
+//! second program, in Python.
 
 use crate::calls::words_of;
 use memory_devices::{MemFile, MemPlace, MemSink};

@@ -6,7 +6,7 @@ use std::alloc::Global;
 use std::test::Fail;
 
 /// A line for each reply, and the reply.
-const LINES: [(&str, &str); 17] = [
+const LINES: [(&str, &str); 19] = [
     (
         "{\"do\":\"root\",\"sv\":\"72057594037927937\"}",
         "{\"ok\":true,\"root\":\"216172782113783809\",\"seen\":1}",
@@ -44,6 +44,7 @@ const LINES: [(&str, &str); 17] = [
         "{\"id\":\"216172782113783899\",\"ok\":false,\"refusal\":\"NoSuchRoot\",\"seen\":1}",
     ),
     ("", "{\"ok\":false,\"refusal\":\"NotJson\"}"),
+    ("{", "{\"ok\":false,\"refusal\":\"NotJson\"}"),
     ("[1]", "{\"ok\":false,\"refusal\":\"NotObject\"}"),
     (
         "{\"do\":\"fly\"}",
@@ -52,6 +53,10 @@ const LINES: [(&str, &str); 17] = [
     (
         "{\"do\":\"merge\"}",
         "{\"name\":\"a\",\"ok\":false,\"refusal\":\"MissingField\"}",
+    ),
+    (
+        "{\"do\":\"root\"}",
+        "{\"name\":\"sv\",\"ok\":false,\"refusal\":\"MissingField\"}",
     ),
     (
         "{\"do\":\"root\",\"sv\":true}",
@@ -95,7 +100,7 @@ fn each_reply(rt: HostRuntime) -> Result<(), Fail> {
     };
     let ran = call(rt.alloc(), &outside)?;
     let summary =
-        b"{\"accepted\":0,\"clients\":1,\"entries\":1,\"faults\":[],\"lines\":17,\"records\":24,\"refused\":11,\"roots\":2,\"status\":0}\n";
+        b"{\"accepted\":0,\"clients\":1,\"entries\":1,\"faults\":[],\"lines\":19,\"records\":24,\"refused\":13,\"roots\":2,\"status\":0}\n";
     assert!(rt; ends_so(&ran, 0, replies.as_slice(), summary));
     Ok(())
 }
@@ -108,23 +113,24 @@ fn a_base_of_one(rt: HostRuntime) -> Result<(), Fail> {
     let outside = Outside {
         supervoxels: b"supervoxel\n72057594037927937\n",
         edges: b"a,b,affinity,active\n",
-        requests: b"{\"do\":\"path\",\"sv\":\"72057594037927937\"}\n",
+        requests: b"{\"do\":\"path\",\"sv\":\"72057594037927937\"}\n{\"do\":\"root\",\"sv\":\"72057594037927937\"}\n",
         ..usual()
     };
     let ran = call_with(rt.alloc(), words, &outside)?;
     assert_eq!(rt; ran.status, 0);
     assert_eq!(rt;
         ran.answers.as_slice(),
-        b"{\"ok\":true,\"path\":[\"144115188075855873\"],\"seen\":1}\n".as_slice()
+        b"{\"ok\":true,\"path\":[\"144115188075855873\"],\"seen\":1}\n{\"ok\":true,\"root\":\"144115188075855873\",\"seen\":1}\n".as_slice()
     );
     assert_eq!(rt;
         ran.out.as_slice(),
-        b"{\"at\":1000,\"changed\":[],\"client\":0,\"line\":0,\"made\":[\"144115188075855873\"],\"op\":0,\"request\":{\"do\":\"ingest\"},\"retired\":[]}\n{\"accepted\":0,\"clients\":1,\"entries\":1,\"faults\":[],\"lines\":1,\"records\":6,\"refused\":0,\"roots\":1,\"status\":0}\n".as_slice()
+        b"{\"at\":1000,\"changed\":[],\"client\":0,\"line\":0,\"made\":[\"144115188075855873\"],\"op\":0,\"request\":{\"do\":\"ingest\"},\"retired\":[]}\n{\"accepted\":0,\"clients\":1,\"entries\":1,\"faults\":[],\"lines\":2,\"records\":6,\"refused\":0,\"roots\":1,\"status\":0}\n".as_slice()
     );
     Ok(())
 }
 
-/// Records in another order, quoted fields, carriage returns, an empty line, and no line feed at the end.
+/// Records in another order, quoted fields, carriage returns, an empty line, and no line feed at
+/// the end.
 #[test]
 fn tables_of_another_form(rt: HostRuntime) -> Result<(), Fail> {
     let outside = Outside {

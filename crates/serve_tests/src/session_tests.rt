@@ -75,8 +75,8 @@ fn text_of(alloc: Global, lines: &[&[u8]]) -> Result<Vec<u8>, Fail> {
     Ok(text)
 }
 
-/// Whether a line of the most bytes, an empty one, one of a byte more, and a last one without a line
-/// feed are given, from a source that gives so many bytes a read.
+/// Whether a line of the most bytes, an empty one, one of a byte more, and a last one without a
+/// line feed are given, from a source that gives so many bytes a read.
 fn gives_sample(alloc: Global, piece: usize) -> Result<bool, Fail>
     requires { 0 < piece }
 {

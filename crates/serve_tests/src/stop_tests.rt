@@ -53,6 +53,15 @@ fn files_and_tables(rt: HostRuntime) -> Result<(), Fail> {
         (
             Outside {
                 missing: ("first.req", ""),
+                edges: b"a,b,affinity,active\n72057594037927937,72057594037927938,10,1\n72057594037927938,72057594037927938,7,1\n",
+                ..usual()
+            },
+            3,
+            b"{\"cause\":\"SelfEdge\",\"fault\":\"BadTable\",\"row\":2,\"table\":\"edges\"}\n",
+        ),
+        (
+            Outside {
+                missing: ("first.req", ""),
                 ..usual()
             },
             2,
@@ -76,6 +85,11 @@ fn words(rt: HostRuntime) -> Result<(), Fail> {
             wrong,
         ),
         (
+            "rehearse --bits 8 --supervoxels supervoxels.csv --edges edges.csv --merge-affinity 1 --clock 1000,10 first",
+            1,
+            wrong,
+        ),
+        (
             "rehearse --bits 8 --grid 2,1,1 --supervoxels supervoxels.csv --edges edges.csv --merge-affinity 1 --clock 1000,10 first second",
             2,
             b"{\"client\":2,\"fault\":\"ReadFault\",\"file\":\"requests\"}\n",
@@ -94,7 +108,8 @@ fn words(rt: HostRuntime) -> Result<(), Fail> {
     Ok(())
 }
 
-/// A table of the supervoxels with segments 1 to 200 in each of two chunks, of ids with 16 bits a coordinate.
+/// A table of the supervoxels with segments 1 to 200 in each of two chunks, of ids with 16 bits a
+/// coordinate.
 fn two_chunks(alloc: Global) -> Result<Vec<u8>, Fail> {
     let mut text = Vec::from_slice(alloc, b"supervoxel\n")?;
     for chunk in [72057594037927936u64, 72058693549555712] {
