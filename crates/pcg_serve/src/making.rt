@@ -10,6 +10,7 @@ ghost use Rattle.made_files.specs.Writing.{KeepsBut};
 ghost use Rattle.made_input.specs.Texts.{input_of};
 ghost use Rattle.made_files.specs.Files.{wish_of};
 ghost use Rattle.request_lines.specs.Sent.{Puts};
+ghost use Rattle.rehearsal.specs.Between.{states};
 ghost use Rattle.call_lines.specs.declared.status.Status.TheVariants as statuses;
 ghost use Rattle.pcg_serve.specs.Making.{MakeOutcome, made_text, stop_of};
 ghost use Rattle.call_lines.specs.Texts.{made_line};
@@ -85,7 +86,7 @@ fn write_made<K: Sink>(edges: u64, lines: u64, supervoxels: u64, out: &mut K) ->
 fn finish_made<K: Sink>(job: &MakeJob, edges: u32, out: &mut K) -> Status
     requires few { (length job.now.stems ≤ 64) × (job.now.requests ≤ 100000) }
     requires edges { edges ≡ (input_of (wish_of job.now)).edge_count }
-    ensures printed { LinePrinted (K.state out.old) (K.state out.new) (made_text job.now) result }
+    ensures printed { LinePrinted (states K.state out.old out.new) (made_text job.now) result }
     ensures flushed { result ≡ statuses.Done → IsFlushed (K.state out.new).held (K.state out.new).flushed }
     ensures later { (K.state out.old).faults ≤ (K.state out.new).faults }
 {
@@ -110,8 +111,7 @@ pub fn run_make<P: Place, K: Sink>(
 ) -> Status
     requires { IsMake job.now }
     ensures flushed { result ≡ statuses.Done → IsFlushed (K.state out.new).held (K.state out.new).flushed }
-    ensures outcome { MakeOutcome job.now (P.state place.old) (P.state place.new) (K.state out.old)
-        (K.state out.new) result }
+    ensures outcome { MakeOutcome job.now (states P.state place.old place.new) (states K.state out.old out.new) result }
     ensures others { KeepsBut (files_of job.now) (P.state place.old).files
         (P.state place.new).files }
     ensures reads { (P.state place.new).reads ≡ (P.state place.old).reads }
