@@ -18,8 +18,8 @@ use std::alloc::Global;
 use trials::run_trial;
 
 /// Does the job that the words of the command line spell, and answers the status. It writes what
-/// [`run_rehearse`], [`run_make`] or [`run_trial`] writes, or the fault line of wrong words; the status is 1 exactly
-/// where the words spell no job. It asks neither the clock nor the gate yet.
+/// [`run_rehearse`], [`run_make`] or [`run_trial`] writes, or the fault line of wrong words; the
+/// status is 1 exactly where the words spell no job. It asks neither the clock nor the gate yet.
 pub fn run<P: Place, C: Clock + Sync, G: Gate + Sync, K: Sink>(
     alloc: Global,
     words: &[Vec<u8>],
@@ -36,17 +36,21 @@ where
         (states K.state out.old out.new) result }
     // status 0
     ensures done { result ≡ statuses.Done
-        → IsJobDone (job_of words.now) (states P.state place.old place.new) (states K.state out.old out.new) }
+        → IsJobDone (job_of words.now) (states P.state place.old place.new)
+        (states K.state out.old out.new) }
     ensures faultless { result ≡ statuses.Done
         → IsFaultless (states P.state place.old place.new) (states K.state out.old out.new) }
-    ensures flushed { result ≡ statuses.Done → IsFlushed (K.state out.new).held (K.state out.new).flushed }
-    // other statuses: what each tells, which one an input asks for, and that an input of its form gets 0
+    ensures flushed { result ≡ statuses.Done
+        → IsFlushed (K.state out.new).held (K.state out.new).flushed }
+    // other statuses: what each tells, which one an input asks for, and that input of its form
+    // gets 0
     ensures tells { JobTells (job_of words.now) (states P.state place.old place.new)
         (states K.state out.old out.new) result }
     ensures due { (s : TheStatus) → IsJobDue (P.state place.old).files (job_of words.now) s
         → (result ≡ s) ⊎ (result ≡ statuses.ReadFault) ⊎ (result ≡ statuses.NoMemory) }
     ensures complete { IsQuiet (states P.state place.old place.new) (states K.state out.old out.new)
-        → IsJobFine (P.state place.old).files (job_of words.now) → (result ≡ statuses.Done) ⊎ (result ≡ statuses.NoMemory) }
+        → IsJobFine (P.state place.old).files (job_of words.now)
+        → (result ≡ statuses.Done) ⊎ (result ≡ statuses.NoMemory) }
     // whatever it answers
     ensures others { KeepsJobOthers (job_of words.now) (states P.state place.old place.new) }
     ensures later { NoneFell (states P.state place.old place.new) }
@@ -67,7 +71,8 @@ where
     P::Out: Drop,
     ensures outcome { JobOutcome (job_of words.now) (states P.state place.old place.new)
         (states K.state out.old out.new) result }
-    ensures flushed { result ≡ statuses.Done → IsFlushed (K.state out.new).held (K.state out.new).flushed }
+    ensures flushed { result ≡ statuses.Done
+        → IsFlushed (K.state out.new).held (K.state out.new).flushed }
     ensures others { KeepsJobOthers (job_of words.now) (states P.state place.old place.new) }
     ensures later { NoneFell (states P.state place.old place.new) }
     ensures output { (K.state out.old).faults ≤ (K.state out.new).faults }
@@ -87,7 +92,8 @@ where
     requires { MeetsMode job.now }
     ensures outcome { JobOutcome (Some job.now) (states P.state place.old place.new)
         (states K.state out.old out.new) result }
-    ensures flushed { result ≡ statuses.Done → IsFlushed (K.state out.new).held (K.state out.new).flushed }
+    ensures flushed { result ≡ statuses.Done
+        → IsFlushed (K.state out.new).held (K.state out.new).flushed }
     ensures others { KeepsJobOthers (Some job.now) (states P.state place.old place.new) }
     ensures later { NoneFell (states P.state place.old place.new) }
     ensures output { (K.state out.old).faults ≤ (K.state out.new).faults }

@@ -65,7 +65,8 @@ where
     requires { IsRehearse job.now }
     ensures outcome { Outcome job.now (states P.state place.old place.new)
         (states K.state out.old out.new) result }
-    ensures flushed { result ≡ statuses.Done → IsFlushed (K.state out.new).held (K.state out.new).flushed }
+    ensures flushed { result ≡ statuses.Done
+        → IsFlushed (K.state out.new).held (K.state out.new).flushed }
     ensures others { KeepsOther (P.state place.old).files (answers_of job.now)
         (P.state place.new).files }
     ensures later { IsLater (P.state place.old) (P.state place.new) }

@@ -14,7 +14,8 @@ use pcg_base::{Failed, Sink};
 pub(crate) fn print<K: Sink>(summary: &Summary, out: &mut K) -> Status
     ensures printed { LinePrinted (states K.state out.old out.new) (summary_text summary.now)
         result }
-    ensures flushed { result ≡ statuses.Done → IsFlushed (K.state out.new).held (K.state out.new).flushed }
+    ensures flushed { result ≡ statuses.Done
+        → IsFlushed (K.state out.new).held (K.state out.new).flushed }
     ensures later { (K.state out.old).faults ≤ (K.state out.new).faults }
 {
     match write_summary(summary, out) {

@@ -48,7 +48,8 @@ fn try_out(alloc: Global, job: &TrialJob) -> Result<Summary, Stop>
 pub fn run_trial<K: Sink>(alloc: Global, job: &TrialJob, out: &mut K) -> Status
     requires { IsTrial job.now }
     ensures outcome { TrialOutcome job.now (states K.state out.old out.new) result }
-    ensures flushed { result ≡ statuses.Done → IsFlushed (K.state out.new).held (K.state out.new).flushed }
+    ensures flushed { result ≡ statuses.Done
+        → IsFlushed (K.state out.new).held (K.state out.new).flushed }
     ensures later { (K.state out.old).faults ≤ (K.state out.new).faults }
 {
     match try_out(alloc, job) {
