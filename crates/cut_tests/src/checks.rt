@@ -2,7 +2,6 @@
 
 use crate::links::{glue, link};
 use flow_net::{Cut, CutFault, Flow, Net, check_cut, is_net};
-use std::alloc::Global;
 use std::test::Fail;
 
 #[test]
@@ -59,45 +58,6 @@ fn checks_of_one_cut(rt: HostRuntime) -> Result<(), Fail> {
         let mut seen = [true; 4];
         let answered = check_cut(&net, &[0, 0], &[3], &cut, &flow, &mut seen);
         assert!(rt; answered == answer, "at {first} and {last}");
-    }
-    Ok(())
-}
-
-/// Whether a cut and a flow of one link from 0 to 1 with room 5 come to this.
-fn comes_to(
-    alloc: Global,
-    cut: &[u32],
-    amount: i64,
-    answer: Result<(), CutFault>,
-) -> Result<bool, Fail> {
-    let net = Net::new(2, vec![in alloc; link(0, 1, 5)]?);
-    let cut = Cut {
-        links: cut.to_vec(alloc)?,
-    };
-    let flow = Flow {
-        amounts: vec![in alloc; amount]?,
-    };
-    let mut seen = [true; 2];
-    Ok(check_cut(&net, &[0], &[1], &cut, &flow, &mut seen) == answer)
-}
-
-/// Each fault of a net of one link.
-#[test]
-fn checks_of_one_link(rt: HostRuntime) -> Result<(), Fail> {
-    for (cut, amount, answer) in [
-        ([0].as_slice(), 5, Ok(())),
-        (
-            &[0],
-            4,
-            Err(CutFault::Unequal {
-                value: 4,
-                weight: 5,
-            }),
-        ),
-        (&[0], 6, Err(CutFault::OverRoom { link: 0, amount: 6 })),
-        (&[], 5, Err(CutFault::Open { source: 0, sink: 1 })),
-    ] {
-        assert!(rt; comes_to(rt.alloc(), cut, amount, answer)?, "{amount}");
     }
     Ok(())
 }

@@ -3,7 +3,6 @@ use Rattle.std.proofs.Common.{◌≡◌, Option, Some, None, refl, sym, ◌∙�
 use Rattle.std.specs.Prelude.{◌⊎◌}
 use Rattle.pcg_base.specs.Causes.{Rose}
 use Rattle.pcg_base.specs.States.{PlaceState, SinkState}
-use Rattle.pcg_base.specs.Told.{Files}
 use Rattle.pcg_words.specs.declared.job.Job.{Job}
 use Rattle.pcg_words.specs.declared.job.Job.TheVariants as job
 use Rattle.pcg_words.specs.declared.job.MakeJob.{MakeJob}
@@ -19,6 +18,7 @@ use Rattle.job_files.specs.Kept.{KeepsOther}
 use Rattle.job_files.proofs.Counting.{files_keep}
 use Rattle.made_files.specs.Files.{files_of}
 use Rattle.made_files.specs.Writing.{KeepsBut}
+use Rattle.rehearsal.specs.Between.{Between}
 use Rattle.rehearsal.specs.Exact.{IsQuiet}
 use Rattle.rehearsal.specs.Outcomes.{Outcome, answers_of}
 use Rattle.rehearsal.proofs.Dues.{due}
@@ -43,12 +43,12 @@ stop_of_trial found (stops.IdsSpent layer x y z) h = inr (refl, (builds.IdsSpent
 stop_of_trial found (stops.TooSmall need given) h = inr (refl, (builds.TooSmall need given, h))
 stop_of_trial found stops.NoMemory h = inl refl
 
-module _ (old new : PlaceState) (out out' : SinkState) (status : Status) where
-  lost : {A : Type 0} → WordsLost old new out out' status → status ≡ statuses.Done → A
+module _ (place : Between PlaceState) (out : Between SinkState) (status : Status) where
+  lost : {A : Type 0} → WordsLost place out status → status ≡ statuses.Done → A
   lost w z = not_both status statuses.NoMemory statuses.Done w.1 z (λ e. cc)
 
   -- all files were made, and the line about them was printed
-  made_done : (found : MakeJob) → (new.reads ≡ old.reads) × MakeOutcome found old new out out' status → status ≡ statuses.Done → IsMade found old.files new.files out out' × IsFaultless old new out out'
+  made_done : (found : MakeJob) → (place.new.reads ≡ place.old.reads) × MakeOutcome found place out status → status ≡ statuses.Done → IsMade found place out × IsFaultless place out
   made_done found (r, inl h) z = elim h.2 [
     | inl p ↦ ((h.0, p.0), (r, h.1, p.1))
     | inr p ↦ not_both status statuses.WriteFault statuses.Done p.2 z (λ e. cc)
@@ -58,18 +58,18 @@ module _ (old new : PlaceState) (out out' : SinkState) (status : Status) where
     | inr k ↦ not_both status statuses.NoMemory statuses.Done (h.3 ∙ k) z (λ e. cc)
   ]
 
-  made_tells : (found : MakeJob) → MakeOutcome found old new out out' status → (status ≡ statuses.Done) ⊎ (status ≡ statuses.NoMemory) ⊎ ((status ≡ statuses.WriteFault) × (Rose old.writes new.writes ⊎ Rose out.faults out'.faults))
+  made_tells : (found : MakeJob) → MakeOutcome found place out status → (status ≡ statuses.Done) ⊎ (status ≡ statuses.NoMemory) ⊎ ((status ≡ statuses.WriteFault) × (Rose place.old.writes place.new.writes ⊎ Rose out.old.faults out.new.faults))
   made_tells found (inl h) = elim h.2 [
     | inl p ↦ inl p.2
     | inr p ↦ inr (inr (p.2, inr p.1))
   ]
   made_tells found (inr h) = elim (stop_known h.0) [
-    | inl k ↦ (let four = h.3 ∙ k in inr (inr (four, inl (stop_rose found old new h.0 status h.3 h.2 four))))
+    | inl k ↦ (let four = h.3 ∙ k in inr (inr (four, inl (stop_rose found place.old place.new h.0 status h.3 h.2 four))))
     | inr k ↦ inr (inl (h.3 ∙ k))
   ]
 
   -- the summary of a trial was printed
-  trial_done : (found : TrialJob) → (new ≡ old) × TrialOutcome found out out' status → status ≡ statuses.Done → ((new ≡ old) × IsTrialDone found out out') × IsFaultless old new out out'
+  trial_done : (found : TrialJob) → (place.new ≡ place.old) × TrialOutcome found out status → status ≡ statuses.Done → ((place.new ≡ place.old) × IsTrialDone found out) × IsFaultless place out
   trial_done found (same, inl h) z = elim (stop_of_trial found h.0 h.2) [
     | inl k ↦ not_both status statuses.NoMemory statuses.Done (h.1 ∙ k) z (λ e. cc)
     | inr k ↦ not_both status statuses.Full statuses.Done (h.1 ∙ k.0) z (λ e. cc)
@@ -79,7 +79,7 @@ module _ (old new : PlaceState) (out out' : SinkState) (status : Status) where
     | inr p ↦ not_both status statuses.WriteFault statuses.Done p.2 z (λ e. cc)
   ]
 
-  trial_tells : (found : TrialJob) → TrialOutcome found out out' status → TrialTells found out out' status
+  trial_tells : (found : TrialJob) → TrialOutcome found out status → TrialTells found out status
   trial_tells found (inl h) = elim (stop_of_trial found h.0 h.2) [
     | inl k ↦ inr (inl (h.1 ∙ k))
     | inr k ↦ inr (inr (inr (h.1 ∙ k.0, k.1)))
@@ -90,58 +90,58 @@ module _ (old new : PlaceState) (out out' : SinkState) (status : Status) where
   ]
 
   -- a summary is printed just where the base has its records
-  trial_due : (found : TrialJob) → TrialOutcome found out out' status → (s : Status) → (s ≡ statuses.Full) × HasFullTrial found → (status ≡ s) ⊎ (status ≡ statuses.ReadFault) ⊎ (status ≡ statuses.NoMemory)
+  trial_due : (found : TrialJob) → TrialOutcome found out status → (s : Status) → (s ≡ statuses.Full) × HasFullTrial found → (status ≡ s) ⊎ (status ≡ statuses.ReadFault) ⊎ (status ≡ statuses.NoMemory)
   trial_due found (inl h) s d = elim (stop_of_trial found h.0 h.2) [
     | inl k ↦ inr (inr (h.1 ∙ k))
     | inr k ↦ inl (h.1 ∙ k.0 ∙ sym d.0)
   ]
   trial_due found (inr h) s d = absurd (h.1.fits d.1.0 d.1.1)
 
-  pub job_done : (j : Option Job) → JobOutcome j old new out out' status → status ≡ statuses.Done → IsJobDone j old new out out'
+  pub job_done : (j : Option Job) → JobOutcome j place out status → status ≡ statuses.Done → IsJobDone j place out
   job_done None (inl h) z = not_both status statuses.BadWords statuses.Done h.1 z (λ e. cc)
   job_done None (inr h) z = lost h z
-  job_done (Some (job.Rehearse found)) (inl h) z = is_done found old new out out' status h z
+  job_done (Some (job.Rehearse found)) (inl h) z = is_done found place out status h z
   job_done (Some (job.Rehearse found)) (inr h) z = lost h z
   job_done (Some (job.Make found)) (inl h) z = (made_done found h z).0
   job_done (Some (job.Make found)) (inr h) z = lost h z
   job_done (Some (job.Trial found)) (inl h) z = (trial_done found h z).0
   job_done (Some (job.Trial found)) (inr h) z = lost h z
 
-  pub job_faultless : (j : Option Job) → JobOutcome j old new out out' status → status ≡ statuses.Done → IsFaultless old new out out'
+  pub job_faultless : (j : Option Job) → JobOutcome j place out status → status ≡ statuses.Done → IsFaultless place out
   job_faultless None (inl h) z = not_both status statuses.BadWords statuses.Done h.1 z (λ e. cc)
   job_faultless None (inr h) z = lost h z
-  job_faultless (Some (job.Rehearse found)) (inl h) z = is_faultless found old new out out' status h z
+  job_faultless (Some (job.Rehearse found)) (inl h) z = is_faultless found place out status h z
   job_faultless (Some (job.Rehearse found)) (inr h) z = lost h z
   job_faultless (Some (job.Make found)) (inl h) z = (made_done found h z).1
   job_faultless (Some (job.Make found)) (inr h) z = lost h z
   job_faultless (Some (job.Trial found)) (inl h) z = (trial_done found h z).1
   job_faultless (Some (job.Trial found)) (inr h) z = lost h z
 
-  pub job_tells : (j : Option Job) → JobOutcome j old new out out' status → JobTells j old new out out' status
+  pub job_tells : (j : Option Job) → JobOutcome j place out status → JobTells j place out status
   job_tells None (inl h) = inl h.1
   job_tells None (inr h) = inr h.1
-  job_tells (Some (job.Rehearse found)) (inl h) = tells found old new out out' status h
+  job_tells (Some (job.Rehearse found)) (inl h) = tells found place out status h
   job_tells (Some (job.Rehearse found)) (inr h) = inr (inl h.1)
   job_tells (Some (job.Make found)) (inl h) = made_tells found h.1
   job_tells (Some (job.Make found)) (inr h) = inr (inl h.1)
   job_tells (Some (job.Trial found)) (inl h) = trial_tells found h.1
   job_tells (Some (job.Trial found)) (inr h) = inr (inl h.1)
 
-  pub job_due : (j : Option Job) → JobOutcome j old new out out' status → (s : Status) → IsJobDue old.files j s → (status ≡ s) ⊎ (status ≡ statuses.ReadFault) ⊎ (status ≡ statuses.NoMemory)
+  pub job_due : (j : Option Job) → JobOutcome j place out status → (s : Status) → IsJobDue place.old.files j s → (status ≡ s) ⊎ (status ≡ statuses.ReadFault) ⊎ (status ≡ statuses.NoMemory)
   job_due None h s d = absurd d
-  job_due (Some (job.Rehearse found)) (inl h) s d = due found old new out out' status h s d
+  job_due (Some (job.Rehearse found)) (inl h) s d = due found place out status h s d
   job_due (Some (job.Rehearse found)) (inr h) s d = inr (inr h.1)
   job_due (Some (job.Make found)) h s d = absurd d
   job_due (Some (job.Trial found)) (inl h) s d = trial_due found h.1 s d
   job_due (Some (job.Trial found)) (inr h) s d = inr (inr h.1)
 
-  pub job_complete : (j : Option Job) → JobOutcome j old new out out' status → IsQuiet old new out out' → IsJobFine old.files j → (status ≡ statuses.Done) ⊎ (status ≡ statuses.NoMemory)
+  pub job_complete : (j : Option Job) → JobOutcome j place out status → IsQuiet place out → IsJobFine place.old.files j → (status ≡ statuses.Done) ⊎ (status ≡ statuses.NoMemory)
   job_complete None h q f = absurd f
-  job_complete (Some (job.Rehearse found)) (inl h) q f = complete found old new out out' status h q f
+  job_complete (Some (job.Rehearse found)) (inl h) q f = complete found place out status h q f
   job_complete (Some (job.Rehearse found)) (inr h) q f = inr h.1
   job_complete (Some (job.Make found)) (inl h) q f = quiet (made_tells found h.1)
     where
-      quiet : (status ≡ statuses.Done) ⊎ (status ≡ statuses.NoMemory) ⊎ ((status ≡ statuses.WriteFault) × (Rose old.writes new.writes ⊎ Rose out.faults out'.faults)) → (status ≡ statuses.Done) ⊎ (status ≡ statuses.NoMemory)
+      quiet : (status ≡ statuses.Done) ⊎ (status ≡ statuses.NoMemory) ⊎ ((status ≡ statuses.WriteFault) × (Rose place.old.writes place.new.writes ⊎ Rose out.old.faults out.new.faults)) → (status ≡ statuses.Done) ⊎ (status ≡ statuses.NoMemory)
       quiet (inl z) = inl z
       quiet (inr (inl n)) = inr n
       quiet (inr (inr (four, inl r))) = absurd (q.1 r)
@@ -149,7 +149,7 @@ module _ (old new : PlaceState) (out out' : SinkState) (status : Status) where
   job_complete (Some (job.Make found)) (inr h) q f = inr h.1
   job_complete (Some (job.Trial found)) (inl h) q f = quiet (trial_tells found h.1)
     where
-      quiet : TrialTells found out out' status → (status ≡ statuses.Done) ⊎ (status ≡ statuses.NoMemory)
+      quiet : TrialTells found out status → (status ≡ statuses.Done) ⊎ (status ≡ statuses.NoMemory)
       quiet (inl z) = inl z
       quiet (inr (inl n)) = inr n
       quiet (inr (inr (inl r))) = absurd (q.2 r.1)
@@ -157,23 +157,23 @@ module _ (old new : PlaceState) (out out' : SinkState) (status : Status) where
   job_complete (Some (job.Trial found)) (inr h) q f = inr h.1
 
 -- the same of a job whose mode is known
-pub rehearsed_outcome : (j : Job) (found : RehearseJob) (old new : PlaceState) (out out' : SinkState) (status : Status) → j ≡ job.Rehearse found → Outcome found old new out out' status
-    → JobOutcome (Some j) old new out out' status
-rehearsed_outcome j found old new out out' status e h = subst (λ (x : Job). JobOutcome (Some x) old new out out' status) (sym e) (inl h)
+pub rehearsed_outcome : (j : Job) (found : RehearseJob) (place : Between PlaceState) (out : Between SinkState) (status : Status) → j ≡ job.Rehearse found → Outcome found place out status
+    → JobOutcome (Some j) place out status
+rehearsed_outcome j found place out status e h = subst (λ (x : Job). JobOutcome (Some x) place out status) (sym e) (inl h)
 
-pub made_outcome : (j : Job) (found : MakeJob) (old new : PlaceState) (out out' : SinkState) (status : Status) → j ≡ job.Make found → new.reads ≡ old.reads
-    → MakeOutcome found old new out out' status → JobOutcome (Some j) old new out out' status
-made_outcome j found old new out out' status e r h = subst (λ (x : Job). JobOutcome (Some x) old new out out' status) (sym e) (inl (r, h))
+pub made_outcome : (j : Job) (found : MakeJob) (place : Between PlaceState) (out : Between SinkState) (status : Status) → j ≡ job.Make found → place.new.reads ≡ place.old.reads
+    → MakeOutcome found place out status → JobOutcome (Some j) place out status
+made_outcome j found place out status e r h = subst (λ (x : Job). JobOutcome (Some x) place out status) (sym e) (inl (r, h))
 
-pub trial_outcome : (j : Job) (found : TrialJob) (place : PlaceState) (out out' : SinkState) (status : Status) → j ≡ job.Trial found → TrialOutcome found out out' status
-    → JobOutcome (Some j) place place out out' status
-trial_outcome j found place out out' status e h = subst (λ (x : Job). JobOutcome (Some x) place place out out' status) (sym e) (inl (refl, h))
+pub trial_outcome : (j : Job) (found : TrialJob) (place : PlaceState) (out : Between SinkState) (status : Status) → j ≡ job.Trial found → TrialOutcome found out status
+    → JobOutcome (Some j) (record { old = place; new = place }) out status
+trial_outcome j found place out status e h = subst (λ (x : Job). JobOutcome (Some x) (record { old = place; new = place }) out status) (sym e) (inl (refl, h))
 
-pub rehearsed_others : (j : Job) (found : RehearseJob) (f g : Option Files) → j ≡ job.Rehearse found → KeepsOther f (answers_of found) g → KeepsJobOthers (Some j) f g
-rehearsed_others j found f g e h = subst (λ (x : Job). KeepsJobOthers (Some x) f g) (sym e) h
+pub rehearsed_others : (j : Job) (found : RehearseJob) (place : Between PlaceState) → j ≡ job.Rehearse found → KeepsOther place.old.files (answers_of found) place.new.files → KeepsJobOthers (Some j) place
+rehearsed_others j found place e h = subst (λ (x : Job). KeepsJobOthers (Some x) place) (sym e) h
 
-pub made_others : (j : Job) (found : MakeJob) (f g : Option Files) → j ≡ job.Make found → KeepsBut (files_of found) f g → KeepsJobOthers (Some j) f g
-made_others j found f g e h = subst (λ (x : Job). KeepsJobOthers (Some x) f g) (sym e) h
+pub made_others : (j : Job) (found : MakeJob) (place : Between PlaceState) → j ≡ job.Make found → KeepsBut (files_of found) place.old.files place.new.files → KeepsJobOthers (Some j) place
+made_others j found place e h = subst (λ (x : Job). KeepsJobOthers (Some x) place) (sym e) h
 
-pub trial_others : (j : Job) (found : TrialJob) (f : Option Files) → j ≡ job.Trial found → KeepsJobOthers (Some j) f f
-trial_others j found f e = subst (λ (x : Job). KeepsJobOthers (Some x) f f) (sym e) (files_keep f)
+pub trial_others : (j : Job) (found : TrialJob) (place : PlaceState) → j ≡ job.Trial found → KeepsJobOthers (Some j) (record { old = place; new = place })
+trial_others j found place e = subst (λ (x : Job). KeepsJobOthers (Some x) (record { old = place; new = place })) (sym e) (files_keep place.files)

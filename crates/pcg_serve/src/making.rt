@@ -13,6 +13,7 @@ ghost use Rattle.request_lines.specs.Sent.{Puts};
 ghost use Rattle.call_lines.specs.declared.status.Status.TheVariants as statuses;
 ghost use Rattle.pcg_serve.specs.Making.{MakeOutcome, made_text, stop_of};
 ghost use Rattle.call_lines.specs.Texts.{made_line};
+ghost use Rattle.rehearsal.specs.Between.{states};
 ghost use Rattle.trials.specs.Trials.{LinePrinted};
 
 use call_lines::{FileName, Status, Stop};
@@ -85,8 +86,9 @@ fn write_made<K: Sink>(edges: u64, lines: u64, supervoxels: u64, out: &mut K) ->
 fn finish_made<K: Sink>(job: &MakeJob, edges: u32, out: &mut K) -> Status
     requires few { (length job.now.stems ≤ 64) × (job.now.requests ≤ 100000) }
     requires edges { edges ≡ (input_of (wish_of job.now)).edge_count }
-    ensures printed { LinePrinted (K.state out.old) (K.state out.new) (made_text job.now) result }
-    ensures flushed { result ≡ statuses.Done → IsFlushed (K.state out.new).held (K.state out.new).flushed }
+    ensures printed { LinePrinted (states K.state out.old out.new) (made_text job.now) result }
+    ensures flushed { result ≡ statuses.Done
+        → IsFlushed (K.state out.new).held (K.state out.new).flushed }
     ensures later { (K.state out.old).faults ≤ (K.state out.new).faults }
 {
     let lines = job.stems.list.len() as u64 * job.requests;
@@ -109,9 +111,10 @@ pub fn run_make<P: Place, K: Sink>(
     out: &mut K,
 ) -> Status
     requires { IsMake job.now }
-    ensures flushed { result ≡ statuses.Done → IsFlushed (K.state out.new).held (K.state out.new).flushed }
-    ensures outcome { MakeOutcome job.now (P.state place.old) (P.state place.new) (K.state out.old)
-        (K.state out.new) result }
+    ensures flushed { result ≡ statuses.Done
+        → IsFlushed (K.state out.new).held (K.state out.new).flushed }
+    ensures outcome { MakeOutcome job.now (states P.state place.old place.new)
+        (states K.state out.old out.new) result }
     ensures others { KeepsBut (files_of job.now) (P.state place.old).files
         (P.state place.new).files }
     ensures reads { (P.state place.new).reads ≡ (P.state place.old).reads }

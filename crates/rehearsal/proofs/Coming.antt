@@ -17,6 +17,7 @@ use Rattle.job_tables.specs.Inputs.{IsRead, dataset_of}
 use Rattle.job_tables.specs.Stops.{AllRead}
 use Rattle.session_results.specs.declared.playing.SessionsDone.{SessionsDone}
 use Rattle.session_results.specs.Results.{faults_from, reply_count, status_for}
+use Rattle.rehearsal.specs.Between.{Between}
 use Rattle.rehearsal.specs.Outcomes.{CamePast, ClientsStop, Outcome, Printed, StopCause, answers_of, requests_of}
 use Rattle.rehearsal.specs.Played.{IsBefore}
 use Rattle.rehearsal.specs.Printing.{whole_text}
@@ -61,10 +62,10 @@ module _ (job : RehearseJob) (old new : PlaceState) (done : SessionsDone) (q : I
         play = s.play;
       }
 
-  pub came_out : (out out' : SinkState) (status : Status)
-      → Printed out out' (whole_text (dataset_of job) q.base q.served.log (length job.stems) done.faults.items done.lines done.refused) (status_for done.faults.items) status
-      → Outcome job old new out out' status
-  came_out out out' status p = inr (_, _, came_past, p)
+  pub came_out : (out : Between SinkState) (status : Status)
+      → Printed out.old out.new (whole_text (dataset_of job) q.base q.served.log (length job.stems) done.faults.items done.lines done.refused) (status_for done.faults.items) status
+      → Outcome job (record { old = old; new = new }) out status
+  came_out out status p = inr (_, _, came_past, p)
 
 -- the sessions didn't begin, told from the call's start
 pub sessions_stop : (job : RehearseJob) → IsRehearse job → (o s t : PlaceState) (input : JobBase) (stop : Stop) → IsBefore o s → IsRead o.files job input → AllRead o.files s.left job → ClientsStop job s t stop

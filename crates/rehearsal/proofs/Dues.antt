@@ -20,6 +20,7 @@ use Rattle.call_lines.specs.declared.stops.Stop.TheVariants as stops
 use Rattle.call_lines.specs.Statuses.{status_of}
 use Rattle.job_tables.specs.Inputs.{HasBase, HasSchedule, HasText, NamesClients, NamesNone, dataset_of, limit}
 use Rattle.job_tables.specs.Stops.{AllRead, InputStop, ScheduleLong, ScheduleRead}
+use Rattle.rehearsal.specs.Between.{Between}
 use Rattle.rehearsal.specs.Exact.{HasBadSchedule, HasBadTable, HasFullBase, HasLongText, IsDue}
 use Rattle.rehearsal.specs.Outcomes.{HasInput, Outcome, StopCause}
 use Rattle.rehearsal.proofs.Exact.{long_stop}
@@ -159,23 +160,23 @@ stop_due m job old new (stops.IdsSpent layer x y z) t s d = full_due m new.left 
 stop_due m job old new (stops.TooSmall need given) t s d = full_due m new.left job (t.1, builds.TooSmall need given, t.0) t.2 s d
 stop_due m job old new stops.NoMemory t s d = inr (inr refl)
 
-told_due : (m : Files) (job : RehearseJob) (old new : PlaceState) (out out' : SinkState) (status : Status) → Outcome job (telling m old) new out out' status
+told_due : (m : Files) (job : RehearseJob) (place : Between PlaceState) (out : Between SinkState) (status : Status) → Outcome job (record { old = telling m place.old; new = place.new }) out status
     → (s : Status) → IsDue (Some m) job s → Ends status s
-told_due m job old new out out' status (inl h) s d = subst (λ n. Ends n s) (sym h.1) (go h.2)
+told_due m job place out status (inl h) s d = subst (λ n. Ends n s) (sym h.1) (go h.2)
   where
-    go : StopCause job (telling m old) new h.0 → Ends (status_of h.0) s
-    go (inl t) = stop_due m job old new h.0 t.0 s d
-    go (inr t) = absurd (none_due m new.left job t.0 t.1 s d)
-told_due m job old new out out' status (inr h) s d =
+    go : StopCause job (telling m place.old) place.new h.0 → Ends (status_of h.0) s
+    go (inl t) = stop_due m job place.old place.new h.0 t.0 s d
+    go (inr t) = absurd (none_due m place.new.left job t.0 t.1 s d)
+told_due m job place out status (inr h) s d =
     let p = h.2 in
-    absurd (none_due m new.left job (p.base, p.has_base, p.fits, p.schedule, p.has_schedule) p.read s d)
+    absurd (none_due m place.new.left job (p.base, p.has_base, p.fits, p.schedule, p.has_schedule) p.read s d)
 
-pub due : (job : RehearseJob) (old new : PlaceState) (out out' : SinkState) (status : Status) → Outcome job old new out out' status
-    → (s : Status) → IsDue old.files job s → (status ≡ s) ⊎ (status ≡ statuses.ReadFault) ⊎ (status ≡ statuses.NoMemory)
-due job old new out out' status o s d = go old.files refl d
+pub due : (job : RehearseJob) (place : Between PlaceState) (out : Between SinkState) (status : Status) → Outcome job place out status
+    → (s : Status) → IsDue place.old.files job s → (status ≡ s) ⊎ (status ≡ statuses.ReadFault) ⊎ (status ≡ statuses.NoMemory)
+due job place out status o s d = go place.old.files refl d
   where
-    go : (files : Option Files) → old.files ≡ files → IsDue files job s → Ends status s
+    go : (files : Option Files) → place.old.files ≡ files → IsDue files job s → Ends status s
     go None e d = absurd d
     go (Some m) e d =
-        let same : old ≡ telling m old = ap (λ (f : Option Files). record old { files = f }) e in
-        told_due m job old new out out' status (subst (λ x. Outcome job x new out out' status) same o) s d
+        let same : place.old ≡ telling m place.old = ap (λ (f : Option Files). record place.old { files = f }) e in
+        told_due m job place out status (subst (λ (x : PlaceState). Outcome job (record { old = x; new = place.new }) out status) same o) s d

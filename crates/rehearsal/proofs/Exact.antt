@@ -25,6 +25,7 @@ use Rattle.call_lines.specs.Statuses.{status_of}
 use Rattle.job_tables.specs.Inputs.{HasText, dataset_of, limit}
 use Rattle.job_tables.specs.Stops.{InputStop, ScheduleRose, WasRead}
 use Rattle.session_results.specs.Results.{SessionResult, fault_at, fault_for, fault_of, faults_from, status_for}
+use Rattle.rehearsal.specs.Between.{Between}
 use Rattle.rehearsal.specs.Clients.{AllClients, LinesAre, ReadsSo, TakenAt, WritesSo, broke}
 use Rattle.rehearsal.specs.Exact.{HasBadSchedule, HasBadTable, HasLongStream, HasLongText, IsFine, IsQuiet, Tells}
 use Rattle.rehearsal.specs.Outcomes.{CamePast, ClientsStop, IsDone, Outcome, Printed, StopCause, at_fault}
@@ -77,11 +78,11 @@ all_printed out out' text ended status (inr (inl h)) z = absurd (go (fault_is en
         not_done (sym four ∙ sym h.2 ∙ z)
 all_printed out out' text ended status (inr (inr h)) z = absurd (lost_done (sym h.2 ∙ z))
 
-pub is_done : (job : RehearseJob) (old new : PlaceState) (out out' : SinkState) (status : Status) → Outcome job old new out out' status → status ≡ statuses.Done → IsDone job old new out out'
-is_done job old new out out' status (inl h) z = absurd (never_zero h.0 (sym h.1 ∙ z))
-is_done job old new out out' status (inr h) z =
-    let p = all_printed out out' h.0 h.1 status h.3 z in
-    (h.0, subst (λ n. CamePast job old new h.0 n) p.2 h.2, p.0)
+pub is_done : (job : RehearseJob) (place : Between PlaceState) (out : Between SinkState) (status : Status) → Outcome job place out status → status ≡ statuses.Done → IsDone job place out
+is_done job place out status (inl h) z = absurd (never_zero h.0 (sym h.1 ∙ z))
+is_done job place out status (inr h) z =
+    let p = all_printed out.old out.new h.0 h.1 status h.3 z in
+    (h.0, subst (λ n. CamePast job place.old place.new h.0 n) p.2 h.2, p.0)
 
 read_done : statuses.ReadFault ≡ statuses.Done → ⊥
 read_done x = cc
@@ -107,11 +108,11 @@ all_well client (r ∷ rs) e =
     let more = all_well (client + 1) rs one.2 in
     ((one.0, more.0), (one.1, more.1))
 
-pub is_faultless : (job : RehearseJob) (old new : PlaceState) (out out' : SinkState) (status : Status) → Outcome job old new out out' status → status ≡ statuses.Done
-    → (new.reads ≡ old.reads) × (new.writes ≡ old.writes) × (out'.faults ≡ out.faults)
-is_faultless job old new out out' status (inl h) z = absurd (never_zero h.0 (sym h.1 ∙ z))
-is_faultless job old new out out' status (inr h) z =
-    let p = all_printed out out' h.0 h.1 status h.3 z in
+pub is_faultless : (job : RehearseJob) (place : Between PlaceState) (out : Between SinkState) (status : Status) → Outcome job place out status → status ≡ statuses.Done
+    → (place.new.reads ≡ place.old.reads) × (place.new.writes ≡ place.old.writes) × (out.new.faults ≡ out.old.faults)
+is_faultless job place out status (inl h) z = absurd (never_zero h.0 (sym h.1 ∙ z))
+is_faultless job place out status (inr h) z =
+    let p = all_printed out.old out.new h.0 h.1 status h.3 z in
     let past = h.2 in
     let well = all_well 1 past.results (sym past.history.status ∙ p.2) in
     (past.history.reads well.0, past.history.writes well.1, p.1)
@@ -161,21 +162,21 @@ past_ended job old new text ended p =
     subst (λ n. Ended old.files job.stems old new n) (sym p.history.status) (all_ended (dataset_of job) p.base p.log old new 1 job.stems p.results p.history.clients)
 
 -- what sessions tell is told by the call that answers their status
-ended_tells : (job : RehearseJob) (old new : PlaceState) (out out' : SinkState) (ended status : Status) → status ≡ ended → Ended old.files job.stems old new ended → Tells job old new out out' status
-ended_tells job old new out out' ended status e (inl h) = inl (e ∙ h)
-ended_tells job old new out out' ended status e (inr (inl h)) = inr (inr (inl (e ∙ h.0, h.1)))
-ended_tells job old new out out' ended status e (inr (inr (inl h))) = inr (inr (inr (inr (inl (e ∙ h.0, inl h.1)))))
-ended_tells job old new out out' ended status e (inr (inr (inr h))) = inr (inr (inr (inr (inr (inr (e ∙ h.0, inr (h.1, h.2, h.3, h.4)))))))
+ended_tells : (job : RehearseJob) (place : Between PlaceState) (out : Between SinkState) (ended status : Status) → status ≡ ended → Ended place.old.files job.stems place.old place.new ended → Tells job place out status
+ended_tells job place out ended status e (inl h) = inl (e ∙ h)
+ended_tells job place out ended status e (inr (inl h)) = inr (inr (inl (e ∙ h.0, h.1)))
+ended_tells job place out ended status e (inr (inr (inl h))) = inr (inr (inr (inr (inl (e ∙ h.0, inl h.1)))))
+ended_tells job place out ended status e (inr (inr (inr h))) = inr (inr (inr (inr (inr (inr (e ∙ h.0, inr (h.1, h.2, h.3, h.4)))))))
 
-past_tells : (job : RehearseJob) (old new : PlaceState) (out out' : SinkState) (text : List ℕ) (ended status : Status) → CamePast job old new text ended → Printed out out' text ended status
-    → Tells job old new out out' status
-past_tells job old new out out' text ended status p (inl h) = ended_tells job old new out out' ended status h.2 (past_ended job old new text ended p)
-past_tells job old new out out' text ended status p (inr (inl h)) = go (fault_is ended)
+past_tells : (job : RehearseJob) (place : Between PlaceState) (out : Between SinkState) (text : List ℕ) (ended status : Status) → CamePast job place.old place.new text ended → Printed out.old out.new text ended status
+    → Tells job place out status
+past_tells job place out text ended status p (inl h) = ended_tells job place out ended status h.2 (past_ended job place.old place.new text ended p)
+past_tells job place out text ended status p (inr (inl h)) = go (fault_is ended)
   where
-    go : ((ended ≡ statuses.Done) × (at_fault ended ≡ statuses.WriteFault)) ⊎ (at_fault ended ≡ ended) → Tells job old new out out' status
+    go : ((ended ≡ statuses.Done) × (at_fault ended ≡ statuses.WriteFault)) ⊎ (at_fault ended ≡ ended) → Tells job place out status
     go (inl f) = inr (inr (inr (inr (inl (h.2 ∙ f.1, inr h.1)))))
-    go (inr f) = ended_tells job old new out out' ended status (h.2 ∙ f) (past_ended job old new text ended p)
-past_tells job old new out out' text ended status p (inr (inr h)) = inr (inl h.2)
+    go (inr f) = ended_tells job place out ended status (h.2 ∙ f) (past_ended job place.old place.new text ended p)
+past_tells job place out text ended status p (inr (inr h)) = inr (inl h.2)
 
 -- a text that was read, at a place that tells its bytes or not
 text_of : (m : Option Files) (left : List ℕ → List ℕ) (name : List ℕ) → WasRead m left name → (bytes : List ℕ) × HasText m name bytes
@@ -207,61 +208,61 @@ read_stop job old new client files.Schedule t = go job.schedule t.1
 read_stop job old new client files.Requests t = absurd t
 read_stop job old new client files.Answers t = absurd t
 
-input_tells : (job : RehearseJob) (old new : PlaceState) (out out' : SinkState) (stop : Stop) → InputStop job old new stop → Tells job old new out out' (status_of stop)
-input_tells job old new out out' stops.BadWords t = absurd t
-input_tells job old new out out' (stops.ReadFault client file) t = inr (inr (inl (refl, read_stop job old new client file t)))
-input_tells job old new out out' (stops.WriteFault client file) t = absurd t
-input_tells job old new out out' (stops.TooLong client file) t = inr (inr (inr (inr (inr (inr (refl, inl (long_stop job old new client file t)))))))
-input_tells job old new out out' (stops.BadTable table row cause) t = inr (inr (inr (inl (refl, inl (table, row, cause, t.0)))))
-input_tells job old new out out' (stops.BadSchedule word) t = inr (inr (inr (inl (refl, inr (t.1, word, t.0)))))
-input_tells job old new out out' (stops.IdsSpent layer x y z) t = inr (inr (inr (inr (inr (inl (refl, (t.1, builds.IdsSpent layer x y z, t.0)))))))
-input_tells job old new out out' (stops.TooSmall need given) t = inr (inr (inr (inr (inr (inl (refl, (t.1, builds.TooSmall need given, t.0)))))))
-input_tells job old new out out' stops.NoMemory t = inr (inl refl)
+input_tells : (job : RehearseJob) (place : Between PlaceState) (out : Between SinkState) (stop : Stop) → InputStop job place.old place.new stop → Tells job place out (status_of stop)
+input_tells job place out stops.BadWords t = absurd t
+input_tells job place out (stops.ReadFault client file) t = inr (inr (inl (refl, read_stop job place.old place.new client file t)))
+input_tells job place out (stops.WriteFault client file) t = absurd t
+input_tells job place out (stops.TooLong client file) t = inr (inr (inr (inr (inr (inr (refl, inl (long_stop job place.old place.new client file t)))))))
+input_tells job place out (stops.BadTable table row cause) t = inr (inr (inr (inl (refl, inl (table, row, cause, t.0)))))
+input_tells job place out (stops.BadSchedule word) t = inr (inr (inr (inl (refl, inr (t.1, word, t.0)))))
+input_tells job place out (stops.IdsSpent layer x y z) t = inr (inr (inr (inr (inr (inl (refl, (t.1, builds.IdsSpent layer x y z, t.0)))))))
+input_tells job place out (stops.TooSmall need given) t = inr (inr (inr (inr (inr (inl (refl, (t.1, builds.TooSmall need given, t.0)))))))
+input_tells job place out stops.NoMemory t = inr (inl refl)
 
-clients_tell : (job : RehearseJob) (old new : PlaceState) (out out' : SinkState) (stop : Stop) → ClientsStop job old new stop → Tells job old new out out' (status_of stop)
-clients_tell job old new out out' stops.BadWords t = absurd t
-clients_tell job old new out out' (stops.ReadFault client files.Requests) t = inr (inr (inl (refl, t.3.place)))
-clients_tell job old new out out' (stops.ReadFault client files.Supervoxels) t = absurd t
-clients_tell job old new out out' (stops.ReadFault client files.Edges) t = absurd t
-clients_tell job old new out out' (stops.ReadFault client files.Schedule) t = absurd t
-clients_tell job old new out out' (stops.ReadFault client files.Answers) t = absurd t
-clients_tell job old new out out' (stops.WriteFault client files.Answers) t = inr (inr (inr (inr (inl (refl, inl t.3.place)))))
-clients_tell job old new out out' (stops.WriteFault client files.Supervoxels) t = absurd t
-clients_tell job old new out out' (stops.WriteFault client files.Edges) t = absurd t
-clients_tell job old new out out' (stops.WriteFault client files.Schedule) t = absurd t
-clients_tell job old new out out' (stops.WriteFault client files.Requests) t = absurd t
-clients_tell job old new out out' (stops.TooLong client file) t = absurd t
-clients_tell job old new out out' (stops.BadTable table row cause) t = absurd t
-clients_tell job old new out out' (stops.BadSchedule word) t = absurd t
-clients_tell job old new out out' (stops.IdsSpent layer x y z) t = absurd t
-clients_tell job old new out out' (stops.TooSmall need given) t = absurd t
-clients_tell job old new out out' stops.NoMemory t = inr (inl refl)
+clients_tell : (job : RehearseJob) (place : Between PlaceState) (out : Between SinkState) (stop : Stop) → ClientsStop job place.old place.new stop → Tells job place out (status_of stop)
+clients_tell job place out stops.BadWords t = absurd t
+clients_tell job place out (stops.ReadFault client files.Requests) t = inr (inr (inl (refl, t.3.place)))
+clients_tell job place out (stops.ReadFault client files.Supervoxels) t = absurd t
+clients_tell job place out (stops.ReadFault client files.Edges) t = absurd t
+clients_tell job place out (stops.ReadFault client files.Schedule) t = absurd t
+clients_tell job place out (stops.ReadFault client files.Answers) t = absurd t
+clients_tell job place out (stops.WriteFault client files.Answers) t = inr (inr (inr (inr (inl (refl, inl t.3.place)))))
+clients_tell job place out (stops.WriteFault client files.Supervoxels) t = absurd t
+clients_tell job place out (stops.WriteFault client files.Edges) t = absurd t
+clients_tell job place out (stops.WriteFault client files.Schedule) t = absurd t
+clients_tell job place out (stops.WriteFault client files.Requests) t = absurd t
+clients_tell job place out (stops.TooLong client file) t = absurd t
+clients_tell job place out (stops.BadTable table row cause) t = absurd t
+clients_tell job place out (stops.BadSchedule word) t = absurd t
+clients_tell job place out (stops.IdsSpent layer x y z) t = absurd t
+clients_tell job place out (stops.TooSmall need given) t = absurd t
+clients_tell job place out stops.NoMemory t = inr (inl refl)
 
-pub tells : (job : RehearseJob) (old new : PlaceState) (out out' : SinkState) (status : Status) → Outcome job old new out out' status → Tells job old new out out' status
-tells job old new out out' status (inl h) = subst (λ n. Tells job old new out out' n) (sym h.1) (go h.2)
+pub tells : (job : RehearseJob) (place : Between PlaceState) (out : Between SinkState) (status : Status) → Outcome job place out status → Tells job place out status
+tells job place out status (inl h) = subst (λ n. Tells job place out n) (sym h.1) (go h.2)
   where
-    go : StopCause job old new h.0 → Tells job old new out out' (status_of h.0)
-    go (inl t) = input_tells job old new out out' h.0 t.0
-    go (inr t) = clients_tell job old new out out' h.0 t.2
-tells job old new out out' status (inr h) = past_tells job old new out out' h.0 h.1 status h.2 h.3
+    go : StopCause job place.old place.new h.0 → Tells job place out (status_of h.0)
+    go (inl t) = input_tells job place out h.0 t.0
+    go (inr t) = clients_tell job place out h.0 t.2
+tells job place out status (inr h) = past_tells job place out h.0 h.1 status h.2 h.3
 
-pub complete : (job : RehearseJob) (old new : PlaceState) (out out' : SinkState) (status : Status) → Outcome job old new out out' status → IsQuiet old new out out' → IsFine old.files job
+pub complete : (job : RehearseJob) (place : Between PlaceState) (out : Between SinkState) (status : Status) → Outcome job place out status → IsQuiet place out → IsFine place.old.files job
     → (status ≡ statuses.Done) ⊎ (status ≡ statuses.NoMemory)
-complete job old new out out' status o quiet fine = go (tells job old new out out' status o)
+complete job place out status o quiet fine = go (tells job place out status o)
   where
-    no_table : HasBadTable old.files job ⊎ HasBadSchedule old.files job → ⊥
+    no_table : HasBadTable place.old.files job ⊎ HasBadSchedule place.old.files job → ⊥
     no_table (inl x) = fine.tables x
     no_table (inr x) = fine.schedule x
 
-    no_write : Rose old.writes new.writes ⊎ Rose out.faults out'.faults → ⊥
+    no_write : Rose place.old.writes place.new.writes ⊎ Rose out.old.faults out.new.faults → ⊥
     no_write (inl x) = quiet.1 x
     no_write (inr x) = quiet.2 x
 
-    none_long : HasLongText old.files job ⊎ HasLongStream old.files job → ⊥
+    none_long : HasLongText place.old.files job ⊎ HasLongStream place.old.files job → ⊥
     none_long (inl x) = fine.texts x
     none_long (inr x) = fine.streams x
 
-    go : Tells job old new out out' status → (status ≡ statuses.Done) ⊎ (status ≡ statuses.NoMemory)
+    go : Tells job place out status → (status ≡ statuses.Done) ⊎ (status ≡ statuses.NoMemory)
     go (inl x) = inl x
     go (inr (inl x)) = inr x
     go (inr (inr (inl x))) = absurd (quiet.0 x.1)

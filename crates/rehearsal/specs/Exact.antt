@@ -12,6 +12,7 @@ use Rattle.job_tables.specs.Inputs.{HasBadWord, HasBase, HasFault, HasSchedule, 
 use Rattle.job_tables.specs.Stops.{ScheduleLong}
 use Rattle.call_lines.specs.declared.status.Status.{Status}
 use Rattle.call_lines.specs.declared.status.Status.TheVariants as statuses
+use Rattle.rehearsal.specs.Between.{Between}
 use Rattle.rehearsal.specs.Outcomes.{requests_of}
 
 -- a record of a table has a cause
@@ -45,18 +46,18 @@ IsDue (Some m) job status =
     ⊎ ((status ≡ statuses.Full) × HasFullBase (Some m) job)
 
 -- What a status that isn't 0 or 5 tells.
-abbrev pub Tells : RehearseJob → PlaceState → PlaceState → SinkState → SinkState → Status → Type 0
-Tells job old new out out' status =
+abbrev pub Tells : RehearseJob → Between PlaceState → Between SinkState → Status → Type 0
+Tells job place out status =
     (status ≡ statuses.Done) ⊎ (status ≡ statuses.NoMemory)
-    ⊎ ((status ≡ statuses.ReadFault) × Rose old.reads new.reads)
-    ⊎ ((status ≡ statuses.BadInput) × (HasBadTable old.files job ⊎ HasBadSchedule old.files job))
-    ⊎ ((status ≡ statuses.WriteFault) × (Rose old.writes new.writes ⊎ Rose out.faults out'.faults))
-    ⊎ ((status ≡ statuses.Full) × HasFullBase old.files job)
-    ⊎ ((status ≡ statuses.TooLong) × (HasLongText old.files job ⊎ HasLongStream old.files job))
+    ⊎ ((status ≡ statuses.ReadFault) × Rose place.old.reads place.new.reads)
+    ⊎ ((status ≡ statuses.BadInput) × (HasBadTable place.old.files job ⊎ HasBadSchedule place.old.files job))
+    ⊎ ((status ≡ statuses.WriteFault) × (Rose place.old.writes place.new.writes ⊎ Rose out.old.faults out.new.faults))
+    ⊎ ((status ≡ statuses.Full) × HasFullBase place.old.files job)
+    ⊎ ((status ≡ statuses.TooLong) × (HasLongText place.old.files job ⊎ HasLongStream place.old.files job))
 
 -- no count rose
-abbrev pub IsQuiet : PlaceState → PlaceState → SinkState → SinkState → Type 0
-IsQuiet old new out out' = (¬ (Rose old.reads new.reads)) × (¬ (Rose old.writes new.writes)) × (¬ (Rose out.faults out'.faults))
+abbrev pub IsQuiet : Between PlaceState → Between SinkState → Type 0
+IsQuiet place out = (¬ (Rose place.old.reads place.new.reads)) × (¬ (Rose place.old.writes place.new.writes)) × (¬ (Rose out.old.faults out.new.faults))
 
 -- the input is of its form: tables, schedule and streams within their limits, and numbers and records enough
 pub record IsFine (m : Option Files) (job : RehearseJob) : Type 0 where

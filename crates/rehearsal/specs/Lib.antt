@@ -1,3 +1,4 @@
+pub mod Between
 pub mod Clients
 pub mod Exact
 pub mod History

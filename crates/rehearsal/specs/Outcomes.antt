@@ -26,6 +26,7 @@ use Rattle.job_files.specs.Places.{WriteRose}
 use Rattle.job_tables.specs.Inputs.{HasBase, HasSchedule, dataset_of}
 use Rattle.job_tables.specs.Stops.{AllRead, InputStop}
 use Rattle.session_results.specs.Results.{SessionResult}
+use Rattle.rehearsal.specs.Between.{Between}
 use Rattle.rehearsal.specs.History.{History, IsPlayOf}
 
 -- the names of the clients' files
@@ -94,11 +95,11 @@ Printed out out' text ended status =
     ⊎ (AppendsFront out.held out'.held text × (out'.faults ≡ out.faults) × (status ≡ statuses.NoMemory))
 
 -- A call stopped before its sessions, by this cause and with these files, with this fault line alone; or it came past them, and printed the log and the summary.
-abbrev pub Outcome : RehearseJob → PlaceState → PlaceState → SinkState → SinkState → Status → Type 0
-Outcome job old new out out' status =
-    ((stop : Stop) × (status ≡ status_of stop) × StopCause job old new stop × Prints out out' (stop_text stop))
-    ⊎ ((text : List ℕ) × (ended : Status) × CamePast job old new text ended × Printed out out' text ended status)
+abbrev pub Outcome : RehearseJob → Between PlaceState → Between SinkState → Status → Type 0
+Outcome job place out status =
+    ((stop : Stop) × (status ≡ status_of stop) × StopCause job place.old place.new stop × Prints out.old out.new (stop_text stop))
+    ⊎ ((text : List ℕ) × (ended : Status) × CamePast job place.old place.new text ended × Printed out.old out.new text ended status)
 
 -- the call came past its sessions, none ended in a fault, and all was printed
-abbrev pub IsDone : RehearseJob → PlaceState → PlaceState → SinkState → SinkState → Type 0
-IsDone job old new out out' = (text : List ℕ) × CamePast job old new text statuses.Done × Appends out.held out'.held text
+abbrev pub IsDone : RehearseJob → Between PlaceState → Between SinkState → Type 0
+IsDone job place out = (text : List ℕ) × CamePast job place.old place.new text statuses.Done × Appends out.old.held out.new.held text

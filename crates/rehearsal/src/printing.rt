@@ -76,7 +76,8 @@ pub fn summary_of(
 fn end_with<K: Sink>(summary: &Summary, out: &mut K) -> Status
     ensures printed { Printed (K.state out.old) (K.state out.new) (summary_text summary.now)
         summary.now.status result }
-    ensures flushed { result ≡ statuses.Done → IsFlushed (K.state out.new).held (K.state out.new).flushed }
+    ensures flushed { result ≡ statuses.Done
+        → IsFlushed (K.state out.new).held (K.state out.new).flushed }
     ensures later { (K.state out.old).faults ≤ (K.state out.new).faults }
 {
     if write_summary(summary, out).is_ok() {
@@ -96,8 +97,10 @@ pub(crate) fn finish<K: Sink>(
     requires image { HasLog Image done.words.words }
     ensures printed { ForEachLog Image done.words.words
         (λ d b log. Printed (K.state out.old) (K.state out.new)
-        (whole_text d b log clients done.faults.items done.lines done.refused) (status_for done.faults.items) result) }
-    ensures flushed { result ≡ statuses.Done → IsFlushed (K.state out.new).held (K.state out.new).flushed }
+        (whole_text d b log clients done.faults.items done.lines done.refused)
+        (status_for done.faults.items) result) }
+    ensures flushed { result ≡ statuses.Done
+        → IsFlushed (K.state out.new).held (K.state out.new).flushed }
     ensures later { (K.state out.old).faults ≤ (K.state out.new).faults }
 {
     let SessionsDone {

@@ -6,6 +6,7 @@ ghost use Rattle.pcg_words.specs.Job.{IsRehearse};
 ghost use Rattle.call_lines.specs.declared.status.Status.TheVariants as statuses;
 ghost use Rattle.job_files.specs.Kept.{KeepsOther};
 ghost use Rattle.job_files.specs.Places.{IsLater};
+ghost use Rattle.rehearsal.specs.Between.{states};
 ghost use Rattle.rehearsal.specs.Outcomes.{Outcome, StopCause, answers_of};
 ghost use Rattle.rehearsal.specs.Served.{IsServed};
 
@@ -62,9 +63,10 @@ where
     P::In: Drop,
     P::Out: Drop,
     requires { IsRehearse job.now }
-    ensures outcome { Outcome job.now (P.state place.old) (P.state place.new) (K.state out.old)
-        (K.state out.new) result }
-    ensures flushed { result ≡ statuses.Done → IsFlushed (K.state out.new).held (K.state out.new).flushed }
+    ensures outcome { Outcome job.now (states P.state place.old place.new)
+        (states K.state out.old out.new) result }
+    ensures flushed { result ≡ statuses.Done
+        → IsFlushed (K.state out.new).held (K.state out.new).flushed }
     ensures others { KeepsOther (P.state place.old).files (answers_of job.now)
         (P.state place.new).files }
     ensures later { IsLater (P.state place.old) (P.state place.new) }

@@ -30,6 +30,7 @@ use Rattle.call_lines.specs.Statuses.{code, status_of}
 use Rattle.call_lines.specs.Texts.{stop_text, summary_line}
 use Rattle.job_tables.specs.Inputs.{dataset_with}
 use Rattle.session_results.specs.Results.{SessionResult, line_asked, refusal_count, reply_count, status_for}
+use Rattle.rehearsal.specs.Between.{Between}
 use Rattle.rehearsal.specs.History.{IsPlayOf}
 
 -- the dataset of a trial
@@ -101,24 +102,24 @@ pub record IsTried (job : TrialJob) (text : List ℕ) : Type 0 where
   pub text_so : text ≡ log_summary (dataset_of job) (base_of job) log job.clients [] (reply_count results) (refusal_count results)
 
 -- the line was printed, or the output failed and has a front of it
-abbrev pub LinePrinted : SinkState → SinkState → List ℕ → Status → Type 0
-LinePrinted out out' text status =
-    (Appends out.held out'.held text × (out'.faults ≡ out.faults) × (status ≡ statuses.Done)) ⊎ (AppendsFront out.held out'.held text × Rose out.faults out'.faults × (status ≡ statuses.WriteFault))
+abbrev pub LinePrinted : Between SinkState → List ℕ → Status → Type 0
+LinePrinted out text status =
+    (Appends out.old.held out.new.held text × (out.new.faults ≡ out.old.faults) × (status ≡ statuses.Done)) ⊎ (AppendsFront out.old.held out.new.held text × Rose out.old.faults out.new.faults × (status ≡ statuses.WriteFault))
 
 -- A trial stopped before its sessions, by this cause, with this fault line alone; or its summary was printed, unless the output failed.
-abbrev pub TrialOutcome : TrialJob → SinkState → SinkState → Status → Type 0
-TrialOutcome job out out' status =
-    ((stop : Stop) × (status ≡ status_of stop) × TrialStop job stop × Prints out out' (stop_text stop)) ⊎ ((text : List ℕ) × IsTried job text × LinePrinted out out' text status)
+abbrev pub TrialOutcome : TrialJob → Between SinkState → Status → Type 0
+TrialOutcome job out status =
+    ((stop : Stop) × (status ≡ status_of stop) × TrialStop job stop × Prints out.old out.new (stop_text stop)) ⊎ ((text : List ℕ) × IsTried job text × LinePrinted out text status)
 
 -- what status 0 promises: just the summary was printed
-abbrev pub IsTrialDone : TrialJob → SinkState → SinkState → Type 0
-IsTrialDone job out out' = (text : List ℕ) × IsTried job text × Appends out.held out'.held text
+abbrev pub IsTrialDone : TrialJob → Between SinkState → Type 0
+IsTrialDone job out = (text : List ℕ) × IsTried job text × Appends out.old.held out.new.held text
 
 -- the made base's records can't be had
 abbrev pub HasFullTrial : TrialJob → Type 0
 HasFullTrial job = (e : BuildError) × IsFullFor job e
 
 -- what a status tells
-abbrev pub TrialTells : TrialJob → SinkState → SinkState → Status → Type 0
-TrialTells job out out' status =
-    (status ≡ statuses.Done) ⊎ (status ≡ statuses.NoMemory) ⊎ ((status ≡ statuses.WriteFault) × Rose out.faults out'.faults) ⊎ ((status ≡ statuses.Full) × HasFullTrial job)
+abbrev pub TrialTells : TrialJob → Between SinkState → Status → Type 0
+TrialTells job out status =
+    (status ≡ statuses.Done) ⊎ (status ≡ statuses.NoMemory) ⊎ ((status ≡ statuses.WriteFault) × Rose out.old.faults out.new.faults) ⊎ ((status ≡ statuses.Full) × HasFullTrial job)

@@ -5,6 +5,7 @@ ghost use Rattle.pcg_base.specs.Told.{IsFlushed};
 ghost use Rattle.pcg_words.specs.Job.{IsTrial};
 ghost use Rattle.call_lines.specs.declared.status.Status.TheVariants as statuses;
 ghost use Rattle.call_lines.specs.Texts.{summary_text};
+ghost use Rattle.rehearsal.specs.Between.{states};
 ghost use Rattle.trials.specs.Trials.{IsTried, TrialOutcome, TrialStop};
 
 use crate::playing::{play, summary_from};
@@ -46,8 +47,9 @@ fn try_out(alloc: Global, job: &TrialJob) -> Result<Summary, Stop>
 ///   records than the capacity.
 pub fn run_trial<K: Sink>(alloc: Global, job: &TrialJob, out: &mut K) -> Status
     requires { IsTrial job.now }
-    ensures outcome { TrialOutcome job.now (K.state out.old) (K.state out.new) result }
-    ensures flushed { result ≡ statuses.Done → IsFlushed (K.state out.new).held (K.state out.new).flushed }
+    ensures outcome { TrialOutcome job.now (states K.state out.old out.new) result }
+    ensures flushed { result ≡ statuses.Done
+        → IsFlushed (K.state out.new).held (K.state out.new).flushed }
     ensures later { (K.state out.old).faults ≤ (K.state out.new).faults }
 {
     match try_out(alloc, job) {
